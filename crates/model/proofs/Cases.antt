@@ -1,0 +1,198 @@
+-- The worked shop: cases (a) to (j) of document 01 as one list, by computation.
+use Prim.Native.Nat.{ℕ}
+use mathlib.Core.Path.{_≡_, refl}
+use mathlib.Core.List.{List, [], _∷_, _++_, map}
+use lib.ListN.{replicate}
+use Rattle.model.specs.Lists.{each}
+use Rattle.model.specs.Reader.{Reply, refused, gives, after, ask, repeated, wholeFile}
+use Rattle.model.specs.Numbers.{numberWithin, numberIn, number}
+use Rattle.model.specs.Site.{Site, isSite, facts, isFact}
+use Rattle.model.specs.SiteFile.{declaration, row, tables, siteFile, readSite}
+use Rattle.model.specs.Tables.{vp, semiJoin, isStored}
+use Rattle.model.specs.Store.{semiJoins, kept, vpEntries, semiJoinEntries, layout, tablesIn, decoded, isStoreOf, storeOf}
+use Rattle.model.specs.Pattern.{Pattern, variables, width, fullTable}
+use Rattle.model.specs.PatternFile.{askPosition, askPredicate, triplePattern, patternFile, readPattern}
+use Rattle.model.specs.Plan.{Plan, qualifies, reducedTable, chosenTable, mayChoose}
+use Rattle.model.specs.PlanFile.{step, readPlan}
+use Rattle.model.specs.Planner.{tableRows, chooseTable, isJoined, termCount, chosenRows, beats, competitors, pick, order, planned}
+use Rattle.model.specs.Solutions.{terms, rowsOver, isSolution, solutions}
+use Rattle.model.specs.Join.{extend, joinTable, joined, joinRows}
+use Rattle.model.specs.Calls.{Outcome, outcome, either, build, plan, noneByCounts, rowsOutcome, run, numberOf, valuesOf, planBytesOf}
+use Rattle.model.specs.declared.answer.Answer.{Answer}
+use Rattle.model.specs.declared.answer.Answer.the-variants.{Rows, None, Built, Refused}
+use Rattle.model.specs.declared.answer.Answer.the-variants.{Plan as PlanAnswer}
+use Rattle.model.specs.declared.answer.Planned.{Planned}
+use Rattle.model.specs.declared.plan.Plan.{Plan as PlanNumbers}
+
+-- predicates: 1 covers, 2 in, 3 state
+abbrev pub shop : List ℕ
+shop =
+    0x03 ∷ 0x01 ∷ 0x03 ∷ 0x02 ∷ 0x02 ∷ 0x03 ∷ 0x02 ∷ 0x0A ∷ 0x14 ∷ 0x0B ∷ 0x15 ∷ 0x0C ∷ 0x15 ∷ 0x0A ∷ 0x1E ∷ 0x0B ∷ 0x1E
+    ∷ 0x14 ∷ 0x28 ∷ 0x15 ∷ 0x29 ∷ []
+
+-- ?0 covers ?1, ?0 in ?2, ?1 state 41
+abbrev pub check : List ℕ
+check = 0x03 ∷ 0x01 ∷ 0x02 ∷ 0x03 ∷ 0x01 ∷ 0x04 ∷ 0x05 ∷ 0x03 ∷ 0x06 ∷ 0x52 ∷ []
+
+-- n words lent, each 7
+abbrev pub lent : ℕ → List ℕ
+lent n = replicate n 7
+
+abbrev pub vpRows : List ℕ
+vpRows = 10 ∷ 20 ∷ 11 ∷ 21 ∷ 12 ∷ 21 ∷ 10 ∷ 30 ∷ 11 ∷ 30 ∷ 20 ∷ 40 ∷ 21 ∷ 41 ∷ []
+
+-- the shop's store at threshold t, where `used` words hold it and SS of covers against in starts at `start`
+abbrev pub storeWords : ℕ → ℕ → ℕ → List ℕ → List ℕ
+storeWords t used start stored =
+    3 ∷ t ∷ used
+    -- per predicate: term, row count, start
+    ∷ 1 ∷ 3 ∷ 66 ∷ 2 ∷ 2 ∷ 72 ∷ 3 ∷ 2 ∷ 76
+    -- covers against covers, in, state: row count and start of SS, OS, SO
+    ∷ 3 ∷ 0 ∷ 0 ∷ 0 ∷ 0 ∷ 0
+    ∷ 2 ∷ start ∷ 0 ∷ 0 ∷ 0 ∷ 0
+    ∷ 0 ∷ 0 ∷ 3 ∷ 0 ∷ 0 ∷ 0
+    -- in against covers, in, state
+    ∷ 2 ∷ 0 ∷ 0 ∷ 0 ∷ 0 ∷ 0
+    ∷ 2 ∷ 0 ∷ 0 ∷ 0 ∷ 0 ∷ 0
+    ∷ 0 ∷ 0 ∷ 0 ∷ 0 ∷ 0 ∷ 0
+    -- state against covers, in, state
+    ∷ 0 ∷ 0 ∷ 0 ∷ 0 ∷ 2 ∷ 0
+    ∷ 0 ∷ 0 ∷ 0 ∷ 0 ∷ 0 ∷ 0
+    ∷ 2 ∷ 0 ∷ 0 ∷ 0 ∷ 0 ∷ 0
+    ∷ (vpRows ++ stored)
+
+-- the 84 words with the stored table's two rows, and the 80 without
+abbrev pub stored : ℕ → List ℕ
+stored t = storeWords t 84 80 (10 ∷ 20 ∷ 11 ∷ 21 ∷ [])
+
+abbrev pub unstored : ℕ → List ℕ
+unstored t = storeWords t 80 0 []
+
+abbrev pub chosenPlan : List ℕ
+chosenPlan = 0x02 ∷ 0x00 ∷ 0x00 ∷ 0x04 ∷ 0x01 ∷ 0x00 ∷ []
+
+abbrev pub writtenPlan : List ℕ
+writtenPlan = 0x00 ∷ 0x00 ∷ 0x01 ∷ 0x00 ∷ 0x02 ∷ 0x00 ∷ []
+
+-- the plan's numbers and the count of steps, in the place of memory
+abbrev pub planOutcome : Planned → Outcome
+planOutcome p = outcome (p .answer) (p .plan .steps ++ p .plan .count ∷ [])
+
+abbrev pub siteIn : Reply Site → Site
+siteIn (refused n) = []
+siteIn (gives site) = site
+
+abbrev pub patternIn : Reply Pattern → Pattern
+patternIn (refused n) = []
+patternIn (gives pattern) = pattern
+
+-- the words of the rows that the join of a plan's own tables gives on the shop
+abbrev pub joinWords : List ℕ → Plan → List ℕ
+joinWords bytes plan = each (λ row. row) (joinRows (siteIn (readSite shop)) (patternIn (readPattern (siteIn (readSite shop)) bytes)) plan)
+
+-- what a caller sees of an answer: the number returned, and four words lent for the values, each 7 before
+abbrev pub seen : Answer → PlanNumbers → Outcome
+seen answer plan = outcome answer (numberOf answer ∷ valuesOf answer plan (lent 4))
+
+-- what a caller sees of a plan's answer: the same, and sixteen bytes lent for the plan
+abbrev pub seenPlan : Planned → Outcome
+seenPlan p = outcome (p .answer) (seen (p .answer) (p .plan) .memory ++ planBytesOf p (lent 16))
+
+abbrev pub noPlan : PlanNumbers
+noPlan = record { steps = []; count = 0 }
+
+-- what the definitions give, and what document 01 says
+abbrev pub Case : Type 0
+Case = Outcome × Outcome
+
+abbrev pub cases : List Case
+cases =
+    -- (a) 84 words, and a word past them; one stored table, SS of covers against in, 2 of 3 rows; 83 words: 9
+    (build 1000 shop (lent 85), outcome (Built 84) (stored 1000 ++ 7 ∷ []))
+    ∷ (build 1000 shop (lent 84), outcome (Built 84) (stored 1000))
+    ∷ (build 1000 shop (lent 83), outcome (Refused 9) (lent 83))
+    ∷ (seen (build 1000 shop (lent 84) .answer) noPlan, outcome (Built 84) (0 ∷ 3 ∷ 84 ∷ 0 ∷ 0 ∷ []))
+    ∷ (seen (build 1000 shop (lent 83) .answer) noPlan, outcome (Refused 9) (9 ∷ 7 ∷ 7 ∷ 7 ∷ 7 ∷ []))
+    -- (b) T 667: stored; T 666: not
+    ∷ (build 667 shop (lent 84), outcome (Built 84) (stored 667))
+    ∷ (build 666 shop (lent 84), outcome (Built 80) (unstored 666 ++ 7 ∷ 7 ∷ 7 ∷ 7 ∷ []))
+    -- (c) the plan chosen; that plan and the written order give the one row; 2 words: 21, 3: accepted
+    ∷ (
+      planOutcome (plan (stored 1000) check),
+      outcome PlanAnswer (2 ∷ 0 ∷ 0 ∷ 4 ∷ 1 ∷ 0 ∷ 0 ∷ 0 ∷ 0 ∷ 0 ∷ 0 ∷ 0 ∷ 0 ∷ 0 ∷ 0 ∷ 0 ∷ 3 ∷ []),
+    )
+    ∷ (
+      seenPlan (plan (stored 1000) check),
+      outcome PlanAnswer (0 ∷ 4 ∷ 3 ∷ 0 ∷ 0 ∷ 2 ∷ 0 ∷ 0 ∷ 4 ∷ 1 ∷ 0 ∷ 0 ∷ 0 ∷ 0 ∷ 0 ∷ 0 ∷ 0 ∷ 0 ∷ 0 ∷ 0 ∷ 0 ∷ []),
+    )
+    ∷ (run (stored 1000) check chosenPlan (lent 4), outcome (Rows 1 3) (11 ∷ 21 ∷ 30 ∷ 7 ∷ []))
+    ∷ (run (stored 1000) check writtenPlan (lent 4), outcome (Rows 1 3) (11 ∷ 21 ∷ 30 ∷ 7 ∷ []))
+    ∷ (run (stored 1000) check chosenPlan (lent 2), outcome (Refused 21) (7 ∷ 7 ∷ []))
+    ∷ (run (stored 1000) check chosenPlan (lent 3), outcome (Rows 1 3) (11 ∷ 21 ∷ 30 ∷ []))
+    ∷ (seen (run (stored 1000) check chosenPlan (lent 3) .answer) noPlan, outcome (Rows 1 3) (0 ∷ 1 ∷ 1 ∷ 3 ∷ 0 ∷ []))
+    ∷ (
+      outcome PlanAnswer
+          (joinWords check
+          (record { place = 2; choice = 0 } ∷ record { place = 0; choice = 4 } ∷ record { place = 1; choice = 0 } ∷ [])),
+      outcome PlanAnswer (11 ∷ 21 ∷ 30 ∷ []),
+    )
+    ∷ (
+      outcome PlanAnswer
+          (joinWords check
+          (record { place = 0; choice = 0 } ∷ record { place = 1; choice = 0 } ∷ record { place = 2; choice = 0 } ∷ [])),
+      outcome PlanAnswer (11 ∷ 21 ∷ 30 ∷ []),
+    )
+    -- (d) first choice 7 at place 0: 20; place 0 twice: 19
+    ∷ (run (stored 1000) check (0x00 ∷ 0x07 ∷ 0x01 ∷ 0x00 ∷ 0x02 ∷ 0x00 ∷ []) (lent 3), outcome (Refused 20) (7 ∷ 7 ∷ 7 ∷ []))
+    ∷ (run (stored 1000) check (0x00 ∷ 0x00 ∷ 0x00 ∷ 0x00 ∷ 0x02 ∷ 0x00 ∷ []) (lent 3), outcome (Refused 19) (7 ∷ 7 ∷ 7 ∷ []))
+    -- (e) a site of no bytes: 2; of no predicates: 3 words, and then a pattern on predicate 1: 14; a store of zeros: 10
+    ∷ (build 1000 [] (lent 4), outcome (Refused 2) (7 ∷ 7 ∷ 7 ∷ 7 ∷ []))
+    ∷ (build 1000 (0x00 ∷ []) (lent 4), outcome (Built 3) (0 ∷ 1000 ∷ 3 ∷ 7 ∷ []))
+    ∷ (
+      planOutcome (plan (0 ∷ 1000 ∷ 3 ∷ []) (0x01 ∷ 0x01 ∷ 0x02 ∷ 0x03 ∷ [])),
+      outcome (Refused 14) (0 ∷ 0 ∷ 0 ∷ 0 ∷ 0 ∷ 0 ∷ 0 ∷ 0 ∷ 0 ∷ 0 ∷ 0 ∷ 0 ∷ 0 ∷ 0 ∷ 0 ∷ 0 ∷ 0 ∷ []),
+    )
+    ∷ (
+      run (0 ∷ 1000 ∷ 3 ∷ []) (0x01 ∷ 0x01 ∷ 0x02 ∷ 0x03 ∷ []) (0x00 ∷ 0x00 ∷ []) (lent 2),
+      outcome (Refused 14) (7 ∷ 7 ∷ []),
+    )
+    ∷ (
+      planOutcome (plan (replicate 84 0) check),
+      outcome (Refused 10) (0 ∷ 0 ∷ 0 ∷ 0 ∷ 0 ∷ 0 ∷ 0 ∷ 0 ∷ 0 ∷ 0 ∷ 0 ∷ 0 ∷ 0 ∷ 0 ∷ 0 ∷ 0 ∷ 0 ∷ []),
+    )
+    ∷ (run (replicate 84 0) check chosenPlan (lent 3), outcome (Refused 10) (7 ∷ 7 ∷ 7 ∷ []))
+    -- (f) 10 covers 20, and 10 covers 21
+    ∷ (run (stored 1000) (0x01 ∷ 0x14 ∷ 0x02 ∷ 0x28 ∷ []) (0x00 ∷ 0x00 ∷ []) (lent 1), outcome (Rows 1 0) (7 ∷ []))
+    ∷ (run (stored 1000) (0x01 ∷ 0x14 ∷ 0x02 ∷ 0x2A ∷ []) (0x00 ∷ 0x00 ∷ []) (lent 1), outcome None (7 ∷ []))
+    -- (g) ?0 covers ?0
+    ∷ (run (stored 1000) (0x01 ∷ 0x01 ∷ 0x02 ∷ 0x01 ∷ []) (0x00 ∷ 0x00 ∷ []) (lent 1), outcome None (7 ∷ []))
+    ∷ (
+      seen (run (stored 1000) (0x01 ∷ 0x01 ∷ 0x02 ∷ 0x01 ∷ []) (0x00 ∷ 0x00 ∷ []) (lent 1) .answer) noPlan,
+      outcome None (0 ∷ 2 ∷ 0 ∷ 0 ∷ 0 ∷ []),
+    )
+    -- (h) a cross join
+    ∷ (
+      run (stored 1000) (0x02 ∷ 0x01 ∷ 0x04 ∷ 0x3C ∷ 0x03 ∷ 0x06 ∷ 0x52 ∷ []) (0x00 ∷ 0x00 ∷ 0x01 ∷ 0x00 ∷ []) (lent 5),
+      outcome (Rows 2 2) (10 ∷ 21 ∷ 11 ∷ 21 ∷ 7 ∷ []),
+    )
+    -- (i) OS of in against covers is empty
+    ∷ (
+      run (stored 1000) (0x02 ∷ 0x01 ∷ 0x04 ∷ 0x03 ∷ 0x03 ∷ 0x02 ∷ 0x05 ∷ []) (0x00 ∷ 0x00 ∷ 0x01 ∷ 0x00 ∷ []) (lent 3),
+      outcome None (7 ∷ 7 ∷ 7 ∷ []),
+    )
+    -- (j) no triple patterns: 12; a number that is not in shortest form: 2
+    ∷ (
+      planOutcome (plan (stored 1000) (0x00 ∷ [])),
+      outcome (Refused 12) (0 ∷ 0 ∷ 0 ∷ 0 ∷ 0 ∷ 0 ∷ 0 ∷ 0 ∷ 0 ∷ 0 ∷ 0 ∷ 0 ∷ 0 ∷ 0 ∷ 0 ∷ 0 ∷ 0 ∷ []),
+    )
+    ∷ (
+      seenPlan (plan (stored 1000) (0x00 ∷ [])),
+      outcome (Refused 12) (12 ∷ 7 ∷ 7 ∷ 7 ∷ 7 ∷ 7 ∷ 7 ∷ 7 ∷ 7 ∷ 7 ∷ 7 ∷ 7 ∷ 7 ∷ 7 ∷ 7 ∷ 7 ∷ 7 ∷ 7 ∷ 7 ∷ 7 ∷ 7 ∷ []),
+    )
+    ∷ (run (stored 1000) (0x00 ∷ []) [] (lent 1), outcome (Refused 12) (7 ∷ []))
+    ∷ (build 1000 (0x80 ∷ 0x00 ∷ []) (lent 3), outcome (Refused 2) (7 ∷ 7 ∷ 7 ∷ []))
+    ∷ []
+
+pub worked : map (λ c. c .0) cases ≡ map (λ c. c .1) cases
+unfolding after ask repeated wholeFile numberWithin numberIn number isSite facts isFact declaration row tables siteFile readSite vp semiJoin isStored semiJoins kept vpEntries semiJoinEntries layout tablesIn decoded isStoreOf storeOf variables width fullTable askPosition askPredicate triplePattern patternFile readPattern qualifies reducedTable chosenTable mayChoose step readPlan tableRows chooseTable isJoined termCount chosenRows beats competitors pick order planned terms rowsOver isSolution solutions extend joinTable joined joinRows either build plan noneByCounts rowsOutcome run numberOf valuesOf planBytesOf
+worked = refl

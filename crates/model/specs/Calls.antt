@@ -1,0 +1,131 @@
+-- What each call answers, and what the memory lent to it holds afterwards, for every input.
+use Prim.Native.Nat.{ℕ, _*_}
+use mathlib.Core.Bool.{Bool, true, false, cond, _&&_, _||_}
+use mathlib.Core.Option.{Option, none, some}
+use mathlib.Core.List.{List, [], _∷_, _++_}
+use lib.ListN.{length, take, drop, replicate}
+use lib.Dec.{eqb, leb}
+use Rattle.model.specs.Lists.{any, each}
+use Rattle.model.specs.Reader.{Reply, refused, gives}
+use Rattle.model.specs.Site.{Site}
+use Rattle.model.specs.SiteFile.{readSite}
+use Rattle.model.specs.Tables.{kinds, mostThreshold}
+use Rattle.model.specs.Store.{Store, storeOf, layout}
+use Rattle.model.specs.Pattern.{Pattern, mostTriplePatterns, width, places, fullTable}
+use Rattle.model.specs.PatternFile.{readPattern}
+use Rattle.model.specs.Plan.{Plan, qualifies, reducedTable}
+use Rattle.model.specs.PlanFile.{stepNumbers, readPlan}
+use Rattle.model.specs.Planner.{planned}
+use Rattle.model.specs.Solutions.{solutions}
+use Rattle.model.specs.declared.answer.Answer.{Answer}
+use Rattle.model.specs.declared.answer.Answer.the-variants.{Rows, None, Built, Refused}
+use Rattle.model.specs.declared.answer.Answer.the-variants.{Plan as PlanAnswer}
+use Rattle.model.specs.declared.answer.Planned.{Planned}
+use Rattle.model.specs.declared.plan.Plan.{Plan as PlanNumbers}
+
+-- an answer, and the lent memory afterwards
+pub record Outcome : Type 0 where
+  pub answer : Answer
+  pub memory : List ℕ
+
+abbrev pub outcome : Answer → List ℕ → Outcome
+outcome answer memory = record { answer = answer; memory = memory }
+
+-- words written to the front of the memory; those past them keep their content
+abbrev pub over : List ℕ → List ℕ → List ℕ
+over words memory = words ++ drop (length words) memory
+
+module _ {A B : Type 0} where
+  -- what a value leads to, or what a refusal does
+  unfoldable pub either : (ℕ → B) → Reply A → (A → B) → B
+  either refusal (refused n) next = refusal n
+  either refusal (gives a) next = next a
+
+-- a question of a call itself, with its number
+abbrev pub question : ℕ → Bool → Reply (Unit {0})
+question n true = gives tt
+question n false = refused n
+
+-- question 10
+abbrev pub storeReply : Option Store → Reply Store
+storeReply none = refused 10
+storeReply (some store) = gives store
+
+-- a refusal carries only its number and alters no memory
+abbrev pub unaltered : List ℕ → ℕ → Outcome
+unaltered memory n = outcome (Refused n) memory
+
+-- ---- build
+
+unfoldable pub build : ℕ → List ℕ → List ℕ → Outcome
+build t bytes memory =
+    either (unaltered memory) (question 1 (leb t mostThreshold)) λ _.
+    either (unaltered memory) (readSite bytes) λ site.
+    either (unaltered memory) (question 9 (leb (length (layout t site)) (length memory))) λ _.
+    outcome (Built (length (layout t site))) (over (layout t site) memory)
+
+-- ---- plan
+
+-- n numbers: those given, then zeros
+abbrev pub padded : ℕ → List ℕ → List ℕ
+padded n xs = take n (xs ++ replicate n 0)
+
+-- two numbers for each of at most eight steps, and the count of steps; steps past the count are 0
+abbrev pub planNumbers : Plan → PlanNumbers
+planNumbers plan = record { steps = padded (2 * mostTriplePatterns) (each stepNumbers plan); count = length plan }
+
+abbrev pub withPlan : Answer → Plan → Planned
+withPlan answer plan = record { answer = answer; plan = planNumbers plan }
+
+-- zeros stand beside a refusal
+unfoldable pub plan : List ℕ → List ℕ → Planned
+plan words bytes =
+    either (λ n. withPlan (Refused n) []) (storeReply (storeOf words)) λ store.
+    either (λ n. withPlan (Refused n) []) (readPattern (store .site) bytes) λ pattern.
+    withPlan PlanAnswer (planned store pattern)
+
+-- ---- run
+
+-- some table that qualifies between two places, stored or not, or the VP table of a predicate named has a count of 0
+unfoldable pub noneByCounts : Site → Pattern → Bool
+noneByCounts site pattern = any (λ i. eqb (length (fullTable site pattern i)) 0 || emptyAgainst i) (places pattern)
+  where
+    emptyAgainst : ℕ → Bool
+    emptyAgainst i =
+        any (λ j. any (λ k. qualifies pattern i j k && eqb (length (reducedTable site pattern i j k)) 0) kinds) (places pattern)
+
+-- rows of v words: None where there is none; 21 where they do not fit
+unfoldable pub rowsOutcome : ℕ → List (List ℕ) → List ℕ → Outcome
+rowsOutcome v [] memory = outcome None memory
+rowsOutcome v (r ∷ rs) memory =
+    either (unaltered memory) (question 21 (leb (length (r ∷ rs) * v) (length memory))) λ _.
+    outcome (Rows (length (r ∷ rs)) v) (over (each (λ x. x) (r ∷ rs)) memory)
+
+unfoldable pub run : List ℕ → List ℕ → List ℕ → List ℕ → Outcome
+run words bytes planBytes memory =
+    either (unaltered memory) (storeReply (storeOf words)) λ store.
+    either (unaltered memory) (readPattern (store .site) bytes) λ pattern.
+    either (unaltered memory) (readPlan store pattern planBytes) λ _.
+    cond (noneByCounts (store .site) pattern) (outcome None memory) (rowsOutcome (width pattern) (solutions (store .site) pattern) memory)
+
+-- ---- the number and the values of an answer
+
+-- what a call returns: 0, or the refusal's number
+unfoldable pub numberOf : Answer → ℕ
+numberOf (Rows count width) = 0
+numberOf None = 0
+numberOf (Built words) = 0
+numberOf PlanAnswer = 0
+numberOf (Refused n) = n
+
+-- what the four lent words of an answer hold afterwards: its kind and its values, unused words 0; a refusal leaves them
+unfoldable pub valuesOf : Answer → PlanNumbers → List ℕ → List ℕ
+valuesOf (Rows count width) plan lent = 1 ∷ count ∷ width ∷ 0 ∷ []
+valuesOf None plan lent = 2 ∷ 0 ∷ 0 ∷ 0 ∷ []
+valuesOf (Built words) plan lent = 3 ∷ words ∷ 0 ∷ 0 ∷ []
+valuesOf PlanAnswer plan lent = 4 ∷ plan .count ∷ 0 ∷ 0 ∷ []
+valuesOf (Refused n) plan lent = lent
+
+-- what the sixteen lent bytes of a plan hold afterwards: its numbers; a refusal leaves them
+unfoldable pub planBytesOf : Planned → List ℕ → List ℕ
+planBytesOf planned lent = cond (eqb (numberOf (planned .answer)) 0) (planned .plan .steps) lent

@@ -1,0 +1,64 @@
+-- The pattern file: N, then N triple patterns of subject, predicate, object. Questions 11 to 17.
+use Prim.Native.Nat.{ℕ, _+_, _*_, _/_, _%_}
+use mathlib.Core.Bool.{false, cond}
+use mathlib.Core.List.{List, [], _∷_, _++_}
+use lib.ListN.{length}
+use lib.Dec.{eqb}
+use Rattle.model.specs.Lists.{each}
+use Rattle.model.specs.Reader.{Reply, Reader, _>>=_, _>>_, return, ask, wholeFile, repeated}
+use Rattle.model.specs.Numbers.{isTerm, number, numberBytes}
+use Rattle.model.specs.Site.{Site, isDeclared}
+use Rattle.model.specs.Pattern.{Pattern, positions, variables, width, isNext, isPatternLength}
+use Rattle.model.specs.declared.pattern.Position.{Position}
+use Rattle.model.specs.declared.pattern.Position.the-variants.{Term, Var}
+use Rattle.model.specs.declared.pattern.TriplePattern.{TriplePattern}
+
+-- a position is 2t for the term t, or 2v + 1 for the variable v
+abbrev pub positionOf : ℕ → Position
+positionOf n = cond (eqb (n % 2) 0) (Term (n / 2)) (Var (n / 2))
+
+-- a subject or an object, n variables before it
+unfoldable pub askPosition : ℕ → Position → Reader (Unit {0})
+askPosition n (Term t) = ask 15 (isTerm t)
+askPosition n (Var v) = ask 16 (isNext n v)
+
+unfoldable pub askPredicate : Site → Position → Reader (Unit {0})
+askPredicate site (Term t) = ask 13 (isTerm t) >> ask 14 (isDeclared site t)
+askPredicate site (Var v) = ask 13 false
+
+-- a triple pattern, with those before it
+unfoldable pub triplePattern : Site → Pattern → Reader TriplePattern
+triplePattern site done = do
+  s ← number 11
+  askPosition (width done) (positionOf s)
+  p ← number 11
+  askPredicate site (positionOf p)
+  o ← number 11
+  askPosition (variables (width done) (positionOf s ∷ positionOf p ∷ [])) (positionOf o)
+  return (record { subject = positionOf s; predicate = positionOf p; object = positionOf o })
+
+unfoldable pub patternFile : Site → Reader Pattern
+patternFile site = do
+  n ← number 11
+  ask 12 (isPatternLength n)
+  repeated (triplePattern site) n []
+
+-- the pattern of a file, or a refusal's number
+unfoldable pub readPattern : Site → List ℕ → Reply Pattern
+readPattern site bytes = wholeFile 17 (patternFile site) bytes
+
+-- ---- the writer
+
+abbrev pub positionNumber : Position → ℕ
+positionNumber (Term t) = 2 * t
+positionNumber (Var v) = 2 * v + 1
+
+abbrev pub positionBytes : Position → List ℕ
+positionBytes x = numberBytes (positionNumber x)
+
+abbrev pub triplePatternBytes : TriplePattern → List ℕ
+triplePatternBytes q = each positionBytes (positions q)
+
+-- what is written for a pattern
+unfoldable pub patternBytes : Pattern → List ℕ
+patternBytes pattern = numberBytes (length pattern) ++ each triplePatternBytes pattern

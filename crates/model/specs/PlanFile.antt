@@ -1,0 +1,35 @@
+-- The plan file: N steps of two numbers, the place of a triple pattern and a choice. Questions 18 to 20.
+use Prim.Native.Nat.{ℕ}
+use mathlib.Core.Bool.{_&&_, not}
+use mathlib.Core.List.{List, [], _∷_}
+use lib.ListN.{length}
+use lib.Dec.{eqb}
+use Rattle.model.specs.Lists.{any, each}
+use Rattle.model.specs.Reader.{Reply, Reader, _>>=_, _>>_, return, ask, wholeFile, repeated}
+use Rattle.model.specs.Numbers.{number, numberBytes}
+use Rattle.model.specs.Store.{Store}
+use Rattle.model.specs.Pattern.{Pattern}
+use Rattle.model.specs.Plan.{Step, Plan, placesOf, isPlace, mayChoose}
+
+-- a step, with those before it
+unfoldable pub step : Store → Pattern → Plan → Reader Step
+step store pattern done = do
+  i ← number 18
+  ask 19 (isPlace pattern i && not (any (eqb i) (placesOf done)))
+  c ← number 18
+  ask 20 (mayChoose store pattern i c)
+  return (record { place = i; choice = c })
+
+-- the plan of a file, or a refusal's number
+unfoldable pub readPlan : Store → Pattern → List ℕ → Reply Plan
+readPlan store pattern bytes = wholeFile 18 (repeated (step store pattern) (length pattern) []) bytes
+
+-- ---- the writer
+
+-- a step's two numbers
+abbrev pub stepNumbers : Step → List ℕ
+stepNumbers x = x .place ∷ x .choice ∷ []
+
+-- what is written for a plan
+unfoldable pub planBytes : Plan → List ℕ
+planBytes plan = each numberBytes (each stepNumbers plan)

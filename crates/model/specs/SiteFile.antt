@@ -1,0 +1,67 @@
+-- The site file: P; P pairs of predicate term and row count; then each predicate's rows. Questions 2 to 8.
+use Prim.Native.Nat.{ℕ, _+_}
+use mathlib.Core.Bool.{_&&_}
+use mathlib.Core.List.{List, [], _∷_, _++_, map}
+use lib.ListN.{length}
+use lib.Dec.{ltb, leb}
+use Rattle.model.specs.Lists.{each, sum, aboveLast}
+use Rattle.model.specs.Reader.{Reply, Reader, _>>=_, _>>_, return, ask, wholeFile, repeated}
+use Rattle.model.specs.Numbers.{isTerm, number, numberBytes}
+use Rattle.model.specs.Site.{Row, rowBefore, Table, Site, mostPredicates, mostRows}
+
+-- a predicate's term and its row count
+abbrev pub Declaration : Type 0
+Declaration = ℕ × ℕ
+
+-- a declaration, with those before it
+unfoldable pub declaration : List Declaration → Reader Declaration
+declaration done = do
+  p ← number 2
+  ask 4 (isTerm p && aboveLast ltb (map (λ d. d .0) done) p)
+  n ← number 2
+  ask 5 (leb (sum (λ d. d .1) done + n) mostRows)
+  return (p, n)
+
+-- a row of a table, with those before it
+unfoldable pub row : List Row → Reader Row
+row done = do
+  s ← number 2
+  ask 6 (isTerm s)
+  o ← number 2
+  ask 6 (isTerm o)
+  ask 7 (aboveLast rowBefore done (s, o))
+  return (s, o)
+
+-- the rows of each declared predicate; `done` are the tables before
+unfoldable pub tables : List Declaration → Site → Reader Site
+tables [] done = return done
+tables (d ∷ ds) done = do
+  rows ← repeated row (d .1) []
+  tables ds (done ++ record { predicate = d .0; rows = rows } ∷ [])
+
+unfoldable pub siteFile : Reader Site
+siteFile = do
+  p ← number 2
+  ask 3 (leb p mostPredicates)
+  declared ← repeated declaration p []
+  tables declared []
+
+-- the site of a file, or a refusal's number
+unfoldable pub readSite : List ℕ → Reply Site
+readSite bytes = wholeFile 8 siteFile bytes
+
+-- ---- the writer
+
+abbrev pub declarationBytes : Declaration → List ℕ
+declarationBytes d = numberBytes (d .0) ++ numberBytes (d .1)
+
+abbrev pub rowBytes : Row → List ℕ
+rowBytes r = numberBytes (r .0) ++ numberBytes (r .1)
+
+abbrev pub declarationOf : Table → Declaration
+declarationOf t = (t .predicate, length (t .rows))
+
+-- what is written for a site
+unfoldable pub siteBytes : Site → List ℕ
+siteBytes site =
+    numberBytes (length site) ++ (each declarationBytes (map declarationOf site) ++ each (λ t. each rowBytes (t .rows)) site)

@@ -1,0 +1,128 @@
+-- The store: the 32-bit words that a site and a threshold give.
+use Prim.Native.Nat.{ℕ, zero, suc, _+_, _*_, _≤_, min}
+use mathlib.Core.Path.{_≡_}
+use mathlib.Core.Bool.{Bool, true, cond, _&&_}
+use mathlib.Core.Option.{Option, none, some}
+use mathlib.Core.List.{List, [], _∷_, _++_, map}
+use lib.ListN.{length, getD, take, drop}
+use lib.Dec.{leb}
+use Rattle.model.specs.Lists.{each, sameWords}
+use Rattle.model.specs.Site.{Row, Site, isSite, rowTotal, mostPredicates, mostRows}
+use Rattle.model.specs.Tables.{kinds, kindCount, semiJoin, isStored, mostThreshold}
+
+-- the rows of p, and those that a semi-join leaves of them
+pub record Reduced : Type 0 where
+  pub full : List Row
+  pub rows : List Row
+
+-- for each p, each q, each k, in that nesting
+unfoldable pub semiJoins : Site → List Reduced
+semiJoins site =
+    each (λ p. each (λ q. map (λ k. record { full = p .rows; rows = semiJoin k (p .rows) (q .rows) }) kinds) site) site
+
+abbrev pub isKept : ℕ → Reduced → Bool
+isKept t x = isStored t (length (x .rows)) (length (x .full))
+
+-- the rows that the store holds of a semi-join
+unfoldable pub kept : ℕ → Reduced → List Row
+kept t x = cond (isKept t x) (x .rows) []
+
+abbrev pub rowWords : Row → List ℕ
+rowWords r = r .0 ∷ r .1 ∷ []
+
+abbrev pub tableWords : List Row → List ℕ
+tableWords rows = each rowWords rows
+
+-- per predicate: term, row count, start; the first table starts at `here`
+unfoldable pub vpEntries : ℕ → Site → List ℕ
+vpEntries here [] = []
+vpEntries here (t ∷ ts) = t .predicate ∷ length (t .rows) ∷ here ∷ vpEntries (here + 2 * length (t .rows)) ts
+
+-- per semi-join: row count, start (0 if not stored); the first stored table starts at `here`
+unfoldable pub semiJoinEntries : ℕ → ℕ → List Reduced → List ℕ
+semiJoinEntries t here [] = []
+semiJoinEntries t here (x ∷ xs) =
+    length (x .rows) ∷ cond (isKept t x) here 0 ∷ semiJoinEntries t (here + 2 * length (kept t x)) xs
+
+-- where the rows begin: after three words, and the entries of p predicates
+abbrev pub rowsStart : ℕ → ℕ
+rowsStart p = 3 + (3 * p + 2 * (p * (p * kindCount)))
+
+-- the first word of the entry of the predicate at place i
+abbrev pub vpEntryAt : ℕ → ℕ
+vpEntryAt i = 3 + 3 * i
+
+-- the first word of the entry of kind k of the predicate at place i against the one at place j, of p predicates
+abbrev pub semiJoinEntryAt : ℕ → ℕ → ℕ → ℕ → ℕ
+semiJoinEntryAt p i j k = 3 + (3 * p + 2 * ((i * p + j) * kindCount + k))
+
+-- where the stored tables' rows begin
+abbrev pub storedStart : Site → ℕ
+storedStart site = rowsStart (length site) + 2 * rowTotal site
+
+abbrev pub vpWords : Site → List ℕ
+vpWords site = each (λ t. tableWords (t .rows)) site
+
+abbrev pub keptWords : ℕ → List Reduced → List ℕ
+keptWords t xs = each (λ x. tableWords (kept t x)) xs
+
+-- P; T; words used; the entries of the predicates and of the semi-joins; all VP rows; all stored tables' rows
+unfoldable pub layout : ℕ → Site → List ℕ
+layout t site =
+    length site ∷ t ∷ (storedStart site + length (keptWords t (semiJoins site)))
+    ∷ (vpEntries (rowsStart (length site)) site
+    ++ (semiJoinEntries t (storedStart site) (semiJoins site) ++ (vpWords site ++ keptWords t (semiJoins site))))
+
+-- the third word
+abbrev pub wordsUsed : List ℕ → ℕ
+wordsUsed words = getD words 2 0
+
+-- the first "words used" words are what the site and the threshold give
+pub record Holds (words : List ℕ) (t : ℕ) (site : Site) : Type 0 where
+  pub threshold : t ≤ mostThreshold
+  pub proper : isSite site ≡ true
+  pub same : take (wordsUsed words) words ≡ layout t site
+
+-- question 10: some site and some threshold give them
+abbrev pub IsStore : List ℕ → Type 0
+IsStore words = (t : ℕ) × (site : Site) × Holds words t site
+
+-- ---- the decoder
+
+pub record Store : Type 0 where
+  pub threshold : ℕ
+  pub site : Site
+
+-- the store of a site at a threshold
+abbrev pub storeAt : ℕ → Site → Store
+storeAt t site = record { threshold = t; site = site }
+
+-- the first n rows of some words
+abbrev pub rowsIn : ℕ → List ℕ → List Row
+rowsIn zero words = []
+rowsIn (suc n) [] = []
+rowsIn (suc n) (s ∷ []) = []
+rowsIn (suc n) (s ∷ o ∷ words) = (s, o) ∷ rowsIn n words
+
+-- the tables of p entries, whose rows begin at `words`
+unfoldable pub tablesIn : ℕ → List ℕ → List ℕ → Site
+tablesIn zero entries words = []
+tablesIn (suc p) entries words =
+    let n = min (getD entries 1 0) mostRows in
+    record { predicate = getD entries 0 0; rows = rowsIn n words } ∷ tablesIn p (drop 3 entries) (drop (2 * n) words)
+
+-- the threshold and the site that words would be a store of
+unfoldable pub decoded : List ℕ → Store
+decoded words =
+    let p = getD words 0 0 in
+    storeAt (getD words 1 0) (tablesIn (min p mostPredicates) (drop 3 words) (drop (rowsStart p) words))
+
+-- the store gives the first "words used" words
+unfoldable pub isStoreOf : Store → List ℕ → Bool
+isStoreOf store words =
+    (leb (store .threshold) mostThreshold && isSite (store .site))
+    && sameWords (take (wordsUsed words) words) (layout (store .threshold) (store .site))
+
+-- the threshold and the site of a store's words; none where question 10 is answered no
+unfoldable pub storeOf : List ℕ → Option Store
+storeOf words = cond (isStoreOf (decoded words) words) (some (decoded words)) none
