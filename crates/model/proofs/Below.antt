@@ -1,0 +1,48 @@
+-- The numbers from n up, and those below n.
+use Prim.Native.Nat.{ℕ, zero, suc, _+_, _≤_, _<_}
+use native.Mathlib.Omega.{arith}
+use mathlib.Core.Path.{_≡_, refl, ap, _∙_}
+use mathlib.Core.Logic.{_⊎_, inl, inr, _≢_}
+use mathlib.Core.Bool.{Bool, true, false}
+use mathlib.Core.List.{_∷_, map, List·Memᴰ·head, List·Memᴰ·tail, List·Memᴰ·not-nil, List·Memᴰ·cases-cons}
+use lib.ListN.{length, getD}
+use lib.Dec.{eqb, ltb}
+use borrow.Author.Tests.{eqb-true, eqb-false, lt-ltb}
+use Rattle.model.specs.Lists.{_∈_, ascends, countUp, below}
+use Rattle.model.proofs.Order.{ascends-cons}
+
+pub from-countUp : {i : ℕ} (a k : ℕ) → i ∈ countUp a k → (a ≤ i) × (i < a + k)
+from-countUp a zero m = absurd (List·Memᴰ·not-nil m)
+from-countUp {i} a (suc k) m = go (List·Memᴰ·cases-cons m) (λ n. from-countUp (suc a) k n)
+  where
+    go : (i ≡ a) ⊎ i ∈ countUp (suc a) k → (i ∈ countUp (suc a) k → (suc a ≤ i) × (i < suc a + k)) → (a ≤ i) × (i < a + suc k)
+    go (inl e) rest = (omega arith, omega arith)
+    go (inr n) rest = let r = rest n in (omega arith, omega arith)
+
+pub into-countUp : (i a k : ℕ) → a ≤ i → i < a + k → i ∈ countUp a k
+into-countUp i a zero h l = absurd (omega arith)
+into-countUp i a (suc k) h l = go (eqb i a) refl (λ r. into-countUp i (suc a) k r (omega arith))
+  where
+    go : (b : Bool) → eqb i a ≡ b → (suc a ≤ i → i ∈ countUp (suc a) k) → i ∈ a ∷ countUp (suc a) k
+    go true e rest = List·Memᴰ·head (eqb-true i a e)
+    go false e rest = let n : i ≢ a = eqb-false i a e in List·Memᴰ·tail (rest (omega arith))
+
+pub from-below : {i : ℕ} (n : ℕ) → i ∈ below n → i < n
+from-below n m = let r = from-countUp 0 n m in omega arith
+
+pub into-below : {i : ℕ} (n : ℕ) → i < n → i ∈ below n
+into-below {i} n h = into-countUp i 0 n (omega arith) (omega arith)
+
+pub length-countUp : (a k : ℕ) → length (countUp a k) ≡ k
+length-countUp a zero = refl
+length-countUp a (suc k) = ap suc (length-countUp (suc a) k)
+
+pub getD-countUp : (f : ℕ → ℕ) (a k v : ℕ) → v < k → getD (map f (countUp a k)) v 0 ≡ f (a + v)
+getD-countUp f a zero v h = absurd (omega arith)
+getD-countUp f a (suc k) zero h = ap f (omega arith)
+getD-countUp f a (suc k) (suc v) h = getD-countUp f (suc a) k v (omega arith) ∙ ap f (omega arith)
+
+pub countUp-ascends : (a k : ℕ) → ascends ltb (countUp a k) ≡ true
+countUp-ascends a zero = refl
+countUp-ascends a (suc k) =
+    ascends-cons ltb a (countUp (suc a) k) (λ y m. lt-ltb a y (from-countUp (suc a) k m .0)) (countUp-ascends (suc a) k)

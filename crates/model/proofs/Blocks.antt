@@ -1,0 +1,75 @@
+-- A block of a list: a run of elements that stands in it from some place on.
+use Prim.Native.Nat.{ℕ, suc, _+_, _*_, _<_}
+use native.Mathlib.Omega.{arith}
+use native.Mathlib.Nat.{zero-mul, suc-mul, add-comm, add-zero}
+use mathlib.Core.Path.{_≡_, refl, sym, ap, _∙_}
+use mathlib.Core.List.{List, [], _∷_, _++_, append-assoc}
+use lib.ListN.{length, getD, take, drop, length-append, List·getD-append}
+use lib.Seq.{split-at, length-take-le, take-append-seam, drop-at, getD-drop}
+use Rattle.model.specs.Lists.{each}
+
+module _ {A : Type 0} where
+  pub record Block (list : List A) (place : ℕ) (block : List A) : Type 0 where
+    pub before : List A
+    pub after : List A
+    pub whole : list ≡ before ++ (block ++ after)
+    pub length-before : length before ≡ place
+
+  -- the element at a place
+  pub element-block : (d : A) (l : List A) (i : ℕ) → i < length l → Block l i (getD l i d ∷ [])
+  element-block d l i h = record { before = take i l; after = drop (suc i) l; whole = split-at l i d h; length-before = length-take-le i l (omega arith) }
+
+  pub block-at : {l b : List A} {i j : ℕ} → i ≡ j → Block l i b → Block l j b
+  block-at e x = rw e at x
+
+  -- a block of a block
+  pub inner-block : {l b c : List A} {i j : ℕ} → Block l i b → Block b j c → Block l (i + j) c
+  inner-block {l} {b} {c} x y = record {
+    before = x .before ++ y .before;
+    after = y .after ++ x .after;
+    whole = x .whole ∙ ap (λ (m : List A). x .before ++ (m ++ x .after)) (y .whole) ∙ simp append-assoc;
+    length-before = length-append (x .before) (y .before) ∙ (cc);
+  }
+
+  -- in a longer list
+  pub longer-block : {l b : List A} {i : ℕ} → Block l i b → (r : List A) → Block (l ++ r) i b
+  longer-block {l} {b} {i} x r = record {
+    before = x .before;
+    after = x .after ++ r;
+    whole = ap (λ (m : List A). m ++ r) (x .whole) ∙ simp append-assoc;
+    length-before = x .length-before;
+  }
+
+  pub drop-block : {l b : List A} {i : ℕ} (x : Block l i b) → drop i l ≡ b ++ x .after
+  drop-block {l} {b} {i} x = ap (drop i) (x .whole) ∙ drop-at (x .before) (b ++ x .after) i (x .length-before)
+
+  pub take-block : {l b : List A} {i : ℕ} → Block l i b → take (length b) (drop i l) ≡ b
+  take-block {l} {b} {i} x = ap (take (length b)) (drop-block x) ∙ take-append-seam b (x .after)
+
+  pub getD-block : {l b : List A} {i : ℕ} → Block l i b → (j : ℕ) (d : A) → j < length b → getD l (i + j) d ≡ getD b j d
+  getD-block {l} {b} {i} x j d h = sym (getD-drop i l j d) ∙ ap (λ (m : List A). getD m j d) (drop-block x) ∙ List·getD-append b (x .after) d j h
+
+  pub head-block : {l b : List A} {i : ℕ} {x : A} → Block l i (x ∷ b) → (d : A) → getD l i d ≡ x
+  head-block {l} {b} {i} {x} y d = rw add-zero at (getD-block y 0 d (omega arith))
+
+module _ {A B : Type 0} (f : A → List B) where
+  pub each-append : (l m : List A) → each f (l ++ m) ≡ each f l ++ each f m
+  each-append [] m = refl
+  each-append (x ∷ xs) m = rw (each-append xs m) (sym (append-assoc (f x) (each f xs) (each f m)))
+
+  -- what f gives for an element
+  pub each-block : {l : List A} {i : ℕ} {x : A} (b : Block l i (x ∷ [])) → Block (each f l) (length (each f (b .before))) (f x)
+  each-block {l} {i} {x} b = record {
+    before = each f (b .before);
+    after = each f (b .after);
+    whole = ap (each f) (b .whole) ∙ each-append (b .before) (x ∷ b .after);
+    length-before = refl;
+  }
+
+  module _ (n : ℕ) (h : (a : A) → length (f a) ≡ n) where
+    pub length-each : (l : List A) → length (each f l) ≡ length l * n
+    length-each [] = sym (zero-mul n)
+    length-each (x ∷ xs) = rw (length-append, h x, length-each xs, suc-mul) (add-comm n (length xs * n))
+
+    pub equal-block : {l : List A} {i : ℕ} {x : A} → Block l i (x ∷ []) → Block (each f l) (i * n) (f x)
+    equal-block b = block-at (length-each (b .before) ∙ ap (λ (k : ℕ). k * n) (b .length-before)) (each-block b)

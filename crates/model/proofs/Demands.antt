@@ -1,0 +1,367 @@
+-- What is promised of the definitions: the three demands and what they lean on, each a named statement with its proof under it.
+use Prim.Native.Nat.{ℕ, _+_, _*_, _≤_, _<_}
+use native.Mathlib.Omega.{arith}
+use mathlib.Core.Path.{_≡_, refl, subst}
+use mathlib.Core.Logic.{_⊎_, inl, inr, ⊎-elim, _↔_}
+use mathlib.Core.Bool.{Bool, true, false, cond}
+use mathlib.Core.Option.{some}
+use mathlib.Core.List.{List, [], _∷_, _++_, map, List·Memᴰ·tail, List·Memᴰ·not-nil}
+use lib.ListN.{length, getD, take, drop, replicate}
+use lib.Dec.{ltb, leb}
+use borrow.Author.Tests.{ltb-true, lt-ltb, leb-true}
+use Rattle.model.specs.Lists.{_∈_, ascends, each, keep, below, wordsBefore}
+use Rattle.model.specs.Reader.{gives}
+use Rattle.model.specs.Site.{Row, rowBefore, Site, isSite, IsFact}
+use Rattle.model.specs.SiteFile.{readSite, siteBytes}
+use Rattle.model.specs.Tables.{vp, at, Kind, semiJoin, kindAt, kindCount, mostThreshold, isStored}
+use Rattle.model.specs.Store.{tableWords, vpEntryAt, semiJoinEntryAt, layout, wordsUsed, Holds, IsStore, Store, storeAt, storeOf}
+use Rattle.model.specs.Pattern.{Pattern, mostVariables, width, isAccepted, fullTable}
+use Rattle.model.specs.PatternFile.{readPattern, patternBytes}
+use Rattle.model.specs.Plan.{Plan, placesOf, qualifies, reducedTable, mayChoose, isProper}
+use Rattle.model.specs.PlanFile.{readPlan, planBytes}
+use Rattle.model.specs.Planner.{tableRows, chooseTable, isJoined, planned}
+use Rattle.model.specs.Solutions.{IsSolution, solutions}
+use Rattle.model.specs.Join.{joinRows}
+use Rattle.model.specs.Calls.{Outcome, outcome, over, unaltered, build, withPlan, plan, noneByCounts, rowsOutcome, run}
+use Rattle.model.specs.declared.answer.Answer.the-variants.{Rows, None, Built, Refused}
+use Rattle.model.specs.declared.answer.Answer.the-variants.{Plan as PlanAnswer}
+use Rattle.model.specs.declared.answer.Planned.{Planned}
+use Rattle.model.proofs.Booleans.{and-cases, and-make, not-both}
+use Rattle.model.proofs.Membership.{at-place}
+use Rattle.model.proofs.Partition.{vp-fact, fact-vp, vp-ascends, vp-table}
+use Rattle.model.proofs.SemiJoins.{into-semi-join, from-semi-join, semi-join-ascends}
+use Rattle.model.proofs.Patterns.{pattern-limit}
+use Rattle.model.proofs.Width.{stands, width-counts}
+use Rattle.model.proofs.Places.{not-against-itself, empty-reduced, empty-full}
+use Rattle.model.proofs.Solutions.{solutions-ascend, solutions-sound, solutions-complete}
+use Rattle.model.proofs.Equation.{join-solutions}
+use Rattle.model.proofs.StoreLayout.{noTable, tableAt, layout-used, vp-entry, semi-join-entry}
+use Rattle.model.proofs.Stores.{store-sound, store-complete, built-holds}
+use Rattle.model.proofs.Readers.{FileIsExact}
+use Rattle.model.proofs.SiteFile.{site-file}
+use Rattle.model.proofs.PatternFile.{pattern-accepted, pattern-file}
+use Rattle.model.proofs.PlanFile.{plan-file}
+use Rattle.model.proofs.Choosing.{choice-order, chosen-table}
+use Rattle.model.proofs.Ordering.{Competes, Precedes, picks}
+use Rattle.model.proofs.ProperPlan.{planned-proper}
+use Rattle.model.proofs.Refusals.{Between, site-refuses, pattern-refuses, plan-refuses}
+use Rattle.model.proofs.Calls.{by-reply, by-question, by-store, wider, none-by-counts}
+use Rattle.model.proofs.Cases.{cases, worked}
+
+-- ==== Demand 1. Each call, on all bytes and words whatsoever, answers with what it was called for (tables, a plan, rows or none) or
+-- with a refusal and its number from the list; a refusal leaves all lent memory unaltered.
+
+-- 1 to 9 and the memory as it was, or Built and the words of the site that was read, over the memory
+abbrev pub BuildAnswer : ℕ → List ℕ → List ℕ → Outcome → Type 0
+BuildAnswer t bytes memory o =
+    ((n : ℕ) × Between 1 9 n × (o ≡ outcome (Refused n) memory))
+    ⊎ ((site : Site) × (t ≤ mostThreshold) × (readSite bytes ≡ gives site)
+    × (o ≡ outcome (Built (length (layout t site))) (over (layout t site) memory)))
+
+pub demand-1-build : (t : ℕ) (bytes memory : List ℕ) → BuildAnswer t bytes memory (build t bytes memory)
+unfolding build
+demand-1-build t bytes memory =
+    by-question (BuildAnswer t bytes memory) (unaltered memory) 1 (leb t mostThreshold) _ (inl (1, omega arith, refl))
+    λ low. by-reply (BuildAnswer t bytes memory) (unaltered memory) (readSite bytes) _
+    (λ n e. inl (n, wider 1 9 (omega arith) (omega arith) (site-refuses bytes .number-between n e), refl))
+    λ site e. by-question (BuildAnswer t bytes memory) (unaltered memory) 9 (leb (length (layout t site)) (length memory)) _ (inl (9, omega arith, refl))
+    λ _. inr (site, leb-true t mostThreshold low, e, refl)
+
+-- the words are the store of some site at some threshold, and the bytes a pattern that is accepted there
+pub record Accepted (words bytes : List ℕ) : Type 0 where
+  pub store : Store
+  pub holds : Holds words (store .threshold) (store .site)
+  pub pattern : Pattern
+  pub read : readPattern (store .site) bytes ≡ gives pattern
+
+-- 10 to 17 with sixteen zeros and a count of 0, or Plan and the planner's steps
+abbrev pub PlanCallAnswer : List ℕ → List ℕ → Planned → Type 0
+PlanCallAnswer words bytes o =
+    ((n : ℕ) × Between 10 17 n × (o ≡ record { answer = Refused n; plan = record { steps = replicate 16 0; count = 0 } }))
+    ⊎ ((c : Accepted words bytes) × (o ≡ withPlan PlanAnswer (planned (c .store) (c .pattern))))
+
+pub demand-1-plan : (words bytes : List ℕ) → PlanCallAnswer words bytes (plan words bytes)
+unfolding plan
+demand-1-plan words bytes =
+    by-store (PlanCallAnswer words bytes) _ words _ (inl (10, omega arith, refl))
+    λ store h. by-reply (PlanCallAnswer words bytes) _ (readPattern (store .site) bytes) _
+    (λ n e. inl (n, wider 10 17 (omega arith) (omega arith) (pattern-refuses (store .site) bytes .number-between n e), refl))
+    λ pattern e. inr (record { store = store; holds = h; pattern = pattern; read = e }, refl)
+
+-- 10 to 21 and the memory as it was; None, the memory as it was, and no solution; or Rows, at least one, of width V, over the memory
+abbrev pub RunAnswer : List ℕ → List ℕ → List ℕ → Outcome → Type 0
+RunAnswer words bytes memory o =
+    ((n : ℕ) × Between 10 21 n × (o ≡ outcome (Refused n) memory))
+    ⊎ (((c : Accepted words bytes) × (o ≡ outcome None memory) × ((row : List ℕ) → IsSolution (c .store .site) (c .pattern) row → ⊥))
+    ⊎ ((c : Accepted words bytes) × (1 ≤ length (solutions (c .store .site) (c .pattern)))
+    × (o ≡ outcome (Rows (length (solutions (c .store .site) (c .pattern))) (width (c .pattern)))
+    (over (each (λ row. row) (solutions (c .store .site) (c .pattern))) memory))))
+
+-- the last questions, of an accepted check
+module _ (words bytes memory : List ℕ) (c : Accepted words bytes) where
+  none-left : solutions (c .store .site) (c .pattern) ≡ [] → (row : List ℕ) → IsSolution (c .store .site) (c .pattern) row → ⊥
+  none-left e row s =
+      List·Memᴰ·not-nil
+      (subst (λ rows. row ∈ rows) e
+      (solutions-complete (c .store .site) (c .pattern) (pattern-accepted (c .store .site) bytes (c .pattern) (c .read)) row s))
+
+  by-rows : (rows : List (List ℕ)) → solutions (c .store .site) (c .pattern) ≡ rows → RunAnswer words bytes memory (rowsOutcome (width (c .pattern)) rows memory)
+  unfolding rowsOutcome
+  by-rows [] e = inr (inl (c, refl, none-left e))
+  by-rows (r ∷ rs) e =
+      by-question (RunAnswer words bytes memory) (unaltered memory) 21 (leb (length (r ∷ rs) * width (c .pattern)) (length memory)) _ (inl (21, omega arith, refl))
+      λ _. inr (inr (c, rw e (omega arith), rw e refl))
+
+  by-counts : (b : Bool) → noneByCounts (c .store .site) (c .pattern) ≡ b
+      → RunAnswer words bytes memory (cond b (outcome None memory) (rowsOutcome (width (c .pattern)) (solutions (c .store .site) (c .pattern)) memory))
+  by-counts true e = inr (inl (c, refl, none-left (none-by-counts (c .store .site) (c .pattern) (pattern-accepted (c .store .site) bytes (c .pattern) (c .read)) e)))
+  by-counts false e = by-rows (solutions (c .store .site) (c .pattern)) refl
+
+pub demand-1-run : (words bytes steps memory : List ℕ) → RunAnswer words bytes memory (run words bytes steps memory)
+unfolding run
+demand-1-run words bytes steps memory =
+    by-store (RunAnswer words bytes memory) (unaltered memory) words _ (inl (10, omega arith, refl))
+    λ store h. by-reply (RunAnswer words bytes memory) (unaltered memory) (readPattern (store .site) bytes) _
+    (λ n e. inl (n, wider 10 21 (omega arith) (omega arith) (pattern-refuses (store .site) bytes .number-between n e), refl))
+    λ pattern e. by-reply (RunAnswer words bytes memory) (unaltered memory) (readPlan store pattern steps) _
+    (λ n f. inl (n, wider 10 21 (omega arith) (omega arith) (plan-refuses store pattern steps .number-between n f), refl))
+    λ _ _. by-counts words bytes memory (record { store = store; holds = h; pattern = pattern; read = e }) (noneByCounts (store .site) pattern) refl
+
+-- ==== The rule before the demands. 'none' may be said only of a site that was read whole and only where the whole site holds no match.
+
+abbrev pub None-Is-Whole : Type 0
+None-Is-Whole =
+    (words bytes steps memory : List ℕ) → run words bytes steps memory .answer ≡ None
+    → (c : Accepted words bytes) × ((row : List ℕ) → IsSolution (c .store .site) (c .pattern) row → ⊥)
+
+pub none-is-whole : None-Is-Whole
+none-is-whole words bytes steps memory h = go (demand-1-run words bytes steps memory) h
+  where
+    go : {o : Outcome} → RunAnswer words bytes memory o → o .answer ≡ None
+        → (c : Accepted words bytes) × ((row : List ℕ) → IsSolution (c .store .site) (c .pattern) row → ⊥)
+    go (inl x) k = let e = x .2 in let z : _≡_ {A = ℕ} 0 1 = cc in absurd (omega arith)
+    go (inr (inl x)) k = (x .0, x .2)
+    go (inr (inr x)) k = let e = x .2 in let z : _≡_ {A = ℕ} 0 1 = cc in absurd (omega arith)
+
+-- ==== Demand 2. The answer to an accepted check holds exactly the solutions of its basic graph pattern over the site, as SPARQL 1.1
+-- defines them, each once, in ascending order; and the tables hold exactly the semi-joins of the S2RDF paper.
+
+-- the list of solutions strictly ascends, and a row is in it exactly if it is a solution (that a run writes this list: demand-1-run)
+abbrev pub Solutions-Are-Listed : Type 0
+Solutions-Are-Listed =
+    (site : Site) (bytes : List ℕ) (pattern : Pattern) → readPattern site bytes ≡ gives pattern
+    → (ascends wordsBefore (solutions site pattern) ≡ true) × ((row : List ℕ) → (row ∈ solutions site pattern) ↔ IsSolution site pattern row)
+
+pub demand-2-solutions : Solutions-Are-Listed
+demand-2-solutions site bytes pattern r = (
+  solutions-ascend site pattern,
+  λ row. (solutions-sound site pattern row, solutions-complete site pattern (pattern-accepted site bytes pattern r) row),
+)
+
+-- V counts the variables that stand in the pattern
+abbrev pub V-Counts : Type 0
+V-Counts =
+    (site : Site) (bytes : List ℕ) (pattern : Pattern) → readPattern site bytes ≡ gives pattern
+    → width pattern ≡ length (keep (stands pattern) (below mostVariables))
+
+pub v-counts : V-Counts
+v-counts site bytes pattern r = width-counts site pattern (pattern-accepted site bytes pattern r)
+
+-- VP of p is the set of (s, o) with (s, p, o) in the site, ascending and each once
+abbrev pub VP-Is-Exact : Type 0
+VP-Is-Exact =
+    (site : Site) (p : ℕ) → isSite site ≡ true
+    → (ascends rowBefore (vp site p) ≡ true) × ((r : Row) → (r ∈ vp site p) ↔ IsFact site (r .0, p, r .1))
+
+pub demand-2-vp : VP-Is-Exact
+demand-2-vp site p h = (vp-ascends site p h, λ r. (fact-vp site p r, vp-fact site (r .0, p, r .1)))
+
+-- for any pair of columns: a row is in the semi-join exactly if it is a row of p and some row of q has its value at the other column;
+-- the reduced table keeps the order and has each row once
+abbrev pub SemiJoins-Are-Exact : Type 0
+SemiJoins-Are-Exact =
+    (k : Kind) (p q : List Row)
+    → ((r : Row) → (r ∈ semiJoin k p q) ↔ ((r ∈ p) × ((s : Row) × (s ∈ q) × (at (k .0) r ≡ at (k .1) s))))
+    × (ascends rowBefore p ≡ true → ascends rowBefore (semiJoin k p q) ≡ true)
+
+pub demand-2-semi-joins : SemiJoins-Are-Exact
+demand-2-semi-joins k p q = ((λ r. (from-semi-join k p q, λ m. into-semi-join k p q (m .0) (m .1))), semi-join-ascends k p q)
+
+-- stored exactly if it has at least one row and 1,000 × its rows < T × the VP rows of p
+abbrev pub Stored-Exactly : Type 0
+Stored-Exactly = (t n m : ℕ) → (isStored t n m ≡ true) ↔ ((1 ≤ n) × (1000 * n < t * m))
+
+pub demand-2-stored : Stored-Exactly
+unfolding isStored
+demand-2-stored t n m = (
+  (λ h. let c = and-cases (ltb 0 n) (ltb (1000 * n) (t * m)) h in (ltb-true 0 n (c .0), ltb-true (1000 * n) (t * m) (c .1))),
+  λ c. and-make (lt-ltb 0 n (c .0)) (lt-ltb (1000 * n) (t * m) (c .1)),
+)
+
+-- ==== Demand 3. For every site, threshold, accepted pattern and proper plan, the step-by-step join of the plan's tables, built from
+-- that site at that threshold, yields exactly the solutions over the whole site: each of them once, and no other row.
+
+abbrev pub Demand-3 : Type 0
+Demand-3 =
+    (t : ℕ) (site : Site) → isSite site ≡ true
+    → (bytes : List ℕ) (pattern : Pattern) → readPattern site bytes ≡ gives pattern
+    → (steps : List ℕ) (plan : Plan) → readPlan (storeAt t site) pattern steps ≡ gives plan
+    → joinRows site pattern plan ≡ solutions site pattern
+
+pub demand-3 : Demand-3
+demand-3 t site proper bytes pattern r steps plan s =
+    let accepted = pattern-accepted site bytes pattern r in
+    join-solutions t site pattern plan proper accepted (plan-file (storeAt t site) pattern (pattern-limit site pattern accepted) .0 steps plan s)
+
+-- And where any table that qualifies for the pattern, stored or not, has no rows, the whole site holds no solution;
+-- nor where the VP table of a predicate that it names has none. So None from the counts alone is right.
+abbrev pub Empty-Table : Type 0
+Empty-Table =
+    (site : Site) (bytes : List ℕ) (pattern : Pattern) → readPattern site bytes ≡ gives pattern
+    → ((i j : ℕ) (k : Kind) → qualifies pattern i j k ≡ true → reducedTable site pattern i j k ≡ [] → solutions site pattern ≡ [])
+    × ((i : ℕ) → i < length pattern → fullTable site pattern i ≡ [] → solutions site pattern ≡ [])
+    × (noneByCounts site pattern ≡ true → solutions site pattern ≡ [])
+
+pub empty-table : Empty-Table
+empty-table site bytes pattern r =
+    let accepted = pattern-accepted site bytes pattern r in
+    (empty-reduced site pattern accepted, empty-full site pattern accepted, none-by-counts site pattern accepted)
+
+-- no table reduces a triple pattern against itself
+abbrev pub Not-Against-Itself : Type 0
+Not-Against-Itself = (pattern : Pattern) (i : ℕ) (k : Kind) → qualifies pattern i i k ≡ false
+
+pub other-places-only : Not-Against-Itself
+other-places-only = not-against-itself
+
+-- ==== The store
+
+-- the predicate at place i of a site
+abbrev predicateAt : Site → ℕ → ℕ
+predicateAt site i = tableAt site i .predicate
+
+-- per predicate its term, its row count, and the words from its start are its rows
+abbrev pub VP-Entries : Type 0
+VP-Entries =
+    (t : ℕ) (site : Site) (i : ℕ) → isSite site ≡ true → i < length site
+    → let words = layout t site in
+    let rows = vp site (predicateAt site i) in
+    (getD words (vpEntryAt i) 0 ≡ predicateAt site i)
+    × (getD words (vpEntryAt i + 1) 0 ≡ length rows)
+    × (take (2 * length rows) (drop (getD words (vpEntryAt i + 2) 0) words) ≡ tableWords rows)
+
+pub store-vp : VP-Entries
+store-vp t site i proper h =
+    let e = vp-entry t site i h in
+    rw (vp-table site (tableAt site i) proper (at-place site noTable i h)) (e .term, e .count, e .rows)
+
+-- for each p, q, k the row count of the semi-join, stored or not, and its start: the words from there are its rows, or 0 if not stored
+abbrev pub SemiJoin-Entries : Type 0
+SemiJoin-Entries =
+    (t : ℕ) (site : Site) (i j k : ℕ) → isSite site ≡ true → i < length site → j < length site → k < kindCount
+    → let words = layout t site in
+    let entry = semiJoinEntryAt (length site) i j k in
+    let full = vp site (predicateAt site i) in
+    let left = semiJoin (kindAt k) full (vp site (predicateAt site j)) in
+    (getD words entry 0 ≡ length left)
+    × (isStored t (length left) (length full) ≡ true → take (2 * length left) (drop (getD words (entry + 1) 0) words) ≡ tableWords left)
+    × (isStored t (length left) (length full) ≡ false → getD words (entry + 1) 0 ≡ 0)
+
+pub store-semi-joins : SemiJoin-Entries
+store-semi-joins t site i j k proper hi hj hk =
+    let e = semi-join-entry t site i j k hi hj hk in
+    rw (vp-table site (tableAt site i) proper (at-place site noTable i hi), vp-table site (tableAt site j) proper (at-place site noTable j hj))
+    (e .count, e .rows, e .not-stored)
+
+-- the third word is the count of all words
+abbrev pub Words-Used : Type 0
+Words-Used = (t : ℕ) (site : Site) → wordsUsed (layout t site) ≡ length (layout t site)
+
+pub store-words-used : Words-Used
+store-words-used = layout-used
+
+-- the decoder answers exactly where question 10 is yes, with that site and threshold; so words are the store of one site at most
+abbrev pub Decoder-Is-Exact : Type 0
+Decoder-Is-Exact =
+    (words : List ℕ)
+    → (IsStore words ↔ ((store : Store) × (storeOf words ≡ some store)))
+    × ((t : ℕ) (site : Site) → (storeOf words ≡ some (storeAt t site)) ↔ Holds words t site)
+
+pub store-decoder : Decoder-Is-Exact
+store-decoder words = (
+  ((λ s. (storeAt (s .0) (s .1), store-complete words (s .0) (s .1) (s .2))), λ s. (s .0 .threshold, s .0 .site, store-sound words (s .0) (s .1))),
+  λ t site. (store-sound words (storeAt t site), store-complete words t site),
+)
+
+-- what is built is a store, whatever stands past the words used
+abbrev pub Built-Is-Store : Type 0
+Built-Is-Store = (t : ℕ) (site : Site) (rest : List ℕ) → t ≤ mostThreshold → isSite site ≡ true → Holds (layout t site ++ rest) t site
+
+pub store-built : Built-Is-Store
+store-built = built-holds
+
+-- ==== The files: what is read is proper; what is written is bytes, and reading it gives it back; an accepted file is what is written
+-- for what was read, so no byte goes unread and no file is refused that should not be
+
+abbrev pub Files-Are-Exact : Type 0
+Files-Are-Exact =
+    FileIsExact readSite siteBytes isSite
+    × ((site : Site) → FileIsExact (readPattern site) patternBytes (isAccepted site))
+    × ((store : Store) (pattern : Pattern) → isAccepted (store .site) pattern ≡ true
+    → FileIsExact (readPlan store pattern) planBytes (isProper store pattern))
+
+pub files-are-exact : Files-Are-Exact
+files-are-exact = (site-file, pattern-file, λ store pattern accepted. plan-file store pattern (pattern-limit (store .site) pattern accepted))
+
+-- ==== The planner
+
+-- the numbers of choices go by VP, then j, then k
+abbrev pub Choice-Order : Type 0
+Choice-Order = (j k l m : ℕ) → k < kindCount → j < l → 1 + (j * kindCount + k) < 1 + (l * kindCount + m)
+
+pub planner-choice-order : Choice-Order
+planner-choice-order = choice-order
+
+-- the chosen table may be chosen, none that may has fewer rows, and any with as few comes later
+abbrev pub Table-Choice : Type 0
+Table-Choice =
+    (store : Store) (pattern : Pattern) (i : ℕ)
+    → let c = chooseTable store pattern i in
+    (mayChoose store pattern i c ≡ true)
+    × ((d : ℕ) → mayChoose store pattern i d ≡ true → tableRows store pattern i c ≤ tableRows store pattern i d)
+    × ((d : ℕ) → mayChoose store pattern i d ≡ true → tableRows store pattern i d ≡ tableRows store pattern i c → c ≤ d)
+
+pub planner-choice : Table-Choice
+planner-choice store pattern i = let c = chosen-table store pattern i in (c .allowed, c .fewest, c .first)
+
+-- each pick is a competitor that no competitor beats by most terms, then fewest rows, then lowest place;
+-- it shares no variable with those before it only where no remaining triple pattern does
+abbrev pub Pick-Order : Type 0
+Pick-Order =
+    (store : Store) (pattern : Pattern) (before after : List ℕ) (i : ℕ) → placesOf (planned store pattern) ≡ before ++ i ∷ after
+    → Competes pattern before (i ∷ after) i
+    × ((j : ℕ) → j ∈ after → Competes pattern before (i ∷ after) j → (j ≡ i → ⊥) → Precedes store pattern before i j)
+    × (isJoined pattern before i ≡ false → (j : ℕ) → j ∈ after → isJoined pattern before j ≡ false)
+
+pub planner-order : Pick-Order
+planner-order store pattern before after i e =
+    let p = picks store pattern before after i e in (
+      p .competes,
+      (λ j m c d. p .unbeaten j (List·Memᴰ·tail m) c d),
+      λ apart j m. ⊎-elim (λ joined. not-both joined apart) (λ none. none j (List·Memᴰ·tail m)) (p .competes),
+    )
+
+-- the plan is proper: so its bytes are read back as that plan
+abbrev pub Plan-Is-Proper : Type 0
+Plan-Is-Proper = (store : Store) (pattern : Pattern) → isProper store pattern (planned store pattern) ≡ true
+
+pub planner-proper : Plan-Is-Proper
+planner-proper = planned-proper
+
+-- ==== The worked shop: cases (a) to (j), what the definitions give against what document 01 says
+
+abbrev pub Cases-Hold : Type 0
+Cases-Hold = map (λ c. c .0) cases ≡ map (λ c. c .1) cases
+
+pub cases-hold : Cases-Hold
+cases-hold = worked

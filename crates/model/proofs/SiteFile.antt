@@ -1,0 +1,184 @@
+-- The site file: every site that is read is proper, what is written is read back, and what is accepted is what is written.
+use Prim.Native.Nat.{ℕ, _+_}
+use native.Mathlib.Omega.{arith}
+use mathlib.Core.Path.{_≡_, refl, sym, ap, _∙_}
+use mathlib.Core.Bool.{Bool, true, _&&_}
+use mathlib.Core.List.{List, [], _∷_, _++_, map, map-map, append-nil, append-assoc}
+use lib.ListN.{length, length-map}
+use lib.Seq.{append-snoc}
+use lib.Dec.{ltb, leb}
+use borrow.Author.Tests.{leb-true}
+use Rattle.model.specs.Lists.{all, each, sum, ascends, aboveLast}
+use Rattle.model.specs.Reader.{gives, after, ask, repeated}
+use Rattle.model.specs.Numbers.{areBytes, isTerm, numberBytes}
+use Rattle.model.specs.Site.{Row, rowBefore, Table, Site, mostPredicates, mostRows, rowTotal, predicatesProper, rowsProper, isSite}
+use Rattle.model.specs.SiteFile.{Declaration, declaration, row, tables, siteFile, readSite, declarationBytes, rowBytes, declarationOf, siteBytes}
+use Rattle.model.proofs.Booleans.{and-cases, and-make}
+use Rattle.model.proofs.Growing.{Grows, all-grows, ascends-grows, both-grow, map-grows, sum-grows}
+use Rattle.model.proofs.Readers.{after-gives, ask-gives, Front, front-none, front-then, Reads, returned, repeated-read, repeated-written, FileIsExact, file-is-exact}
+use Rattle.model.proofs.Numbers.{number-written, number-gives, term-fits, bytes-both, bytes-each, number-bytes}
+
+-- ---- general
+
+module _ {A B : Type 0} (f : A → B) where
+  all-map : (p : B → Bool) (l : List A) → all p (map f l) ≡ all (λ x. p (f x)) l
+  all-map p [] = refl
+  all-map p (x ∷ xs) = rw (all-map p xs) refl
+
+  sum-map : (g : B → ℕ) (l : List A) → sum g (map f l) ≡ sum (λ x. g (f x)) l
+  sum-map g [] = refl
+  sum-map g (x ∷ xs) = rw (sum-map g xs) refl
+
+-- ---- rows
+
+-- asked of the row behind those done
+abbrev rowTest : List Row → Row → Bool
+rowTest done r = isTerm (r .0) && isTerm (r .1) && aboveLast rowBefore done r
+
+rows-grow : Grows rowsProper rowTest
+rows-grow = both-grow (all-grows (λ r. isTerm (r .0) && isTerm (r .1))) (ascends-grows rowBefore)
+
+row-reads : Reads row rowBytes rowTest
+unfolding row after ask
+row-reads = record {
+  read = λ done bytes h.
+      let s = number-gives 2 bytes _ h in
+      let a = ask-gives 6 (isTerm (s .0)) _ (s .3) in
+      let o = number-gives 2 (s .1) _ (a .1) in
+      let b = ask-gives 6 (isTerm (o .0)) _ (o .3) in
+      let c = ask-gives 7 (aboveLast rowBefore done (s .0, o .0)) _ (b .1) in
+      returned (rowTest done) rowBytes (c .1) (and-make (and-make (a .0) (b .0)) (c .0)) (front-then (s .2) (o .2));
+  written = λ done r rest t.
+      let c = and-cases (isTerm (r .0) && isTerm (r .1)) (aboveLast rowBefore done r) t in
+      let d = and-cases (isTerm (r .0)) (isTerm (r .1)) (c .0) in
+      rw (append-assoc, number-written 2 (r .0) _ (term-fits (r .0) (d .0)), d .0, number-written 2 (r .1) _ (term-fits (r .1) (d .1)), d .1, c .1) refl;
+}
+
+-- ---- declarations
+
+abbrev declaredTerms : List Declaration → List ℕ
+declaredTerms ds = map (λ d. d .0) ds
+
+abbrev declaredRows : List Declaration → ℕ
+declaredRows ds = sum (λ d. d .1) ds
+
+abbrev declaredProper : List Declaration → Bool
+declaredProper ds = all isTerm (declaredTerms ds) && ascends ltb (declaredTerms ds) && leb (declaredRows ds) mostRows
+
+abbrev declarationTest : List Declaration → Declaration → Bool
+declarationTest done d = isTerm (d .0) && aboveLast ltb (declaredTerms done) (d .0) && leb (declaredRows done + d .1) mostRows
+
+declared-grow : Grows declaredProper declarationTest
+declared-grow = both-grow (map-grows (λ d. d .0) (both-grow (all-grows isTerm) (ascends-grows ltb))) (sum-grows (λ d. d .1) mostRows)
+
+declaration-reads : Reads declaration declarationBytes declarationTest
+unfolding declaration after ask
+declaration-reads = record {
+  read = λ done bytes h.
+      let p = number-gives 2 bytes _ h in
+      let a = ask-gives 4 (isTerm (p .0) && aboveLast ltb (declaredTerms done) (p .0)) _ (p .3) in
+      let c = number-gives 2 (p .1) _ (a .1) in
+      let b = ask-gives 5 (leb (declaredRows done + c .0) mostRows) _ (c .3) in
+      returned (declarationTest done) declarationBytes (b .1) (and-make (a .0) (b .0)) (front-then (p .2) (c .2));
+  written = λ done d rest t.
+      let above = aboveLast ltb (declaredTerms done) (d .0) in
+      let c = and-cases (isTerm (d .0) && above) (leb (declaredRows done + d .1) mostRows) t in
+      let p = and-cases (isTerm (d .0)) above (c .0) in
+      let l = leb-true (declaredRows done + d .1) mostRows (c .1) in
+      rw (append-assoc, number-written 2 (d .0) _ (term-fits (d .0) (p .0)), c .0, number-written 2 (d .1) _ (omega arith), c .1) refl;
+}
+
+-- ---- tables
+
+abbrev tableBytes : Table → List ℕ
+tableBytes t = each rowBytes (t .rows)
+
+-- tables were read behind those done
+record TablesRead (ds : List Declaration) (done : Site) (bytes : List ℕ) (y : Site × List ℕ) : Type 0 where
+  tables-behind : Site
+  behind : y .0 ≡ done ++ tables-behind
+  declared : map declarationOf tables-behind ≡ ds
+  proper : all (λ t. rowsProper (t .rows)) tables-behind ≡ true
+  front : Front bytes (each tableBytes tables-behind) (y .1)
+
+tables-read : (ds : List Declaration) (done : Site) (bytes : List ℕ) {y : Site × List ℕ} → tables ds done bytes ≡ gives y → TablesRead ds done bytes y
+unfolding tables
+tables-read [] done bytes {y} h =
+    let e : (done, bytes) ≡ y = cc in
+    rw (← e) (record { tables-behind = []; behind = sym (append-nil done); declared = refl; proper = refl; front = front-none })
+tables-read (d ∷ ds) done bytes h =
+    let a = after-gives (repeated row (d .1) [] bytes) _ h in
+    let rows = repeated-read row-reads rows-grow (d .1) bytes (a .2) in
+    let t : Table = record { predicate = d .0; rows = a .0 } in
+    let r = tables-read ds (done ++ t ∷ []) (a .1) (a .3) in
+    let same : declarationOf t ≡ d = λ i. (d .0, rows .0 i) in
+    record {
+      tables-behind = t ∷ r .tables-behind;
+      behind = r .behind ∙ append-snoc done t (r .tables-behind);
+      declared = rw (same, r .declared) refl;
+      proper = and-make (rows .1) (r .proper);
+      front = front-then (rows .2) (r .front);
+    }
+
+all-tables-read : (ds : List Declaration) (bytes : List ℕ) {site : Site} {rest : List ℕ} → tables ds [] bytes ≡ gives (site, rest)
+    → (map declarationOf site ≡ ds) × (all (λ t. rowsProper (t .rows)) site ≡ true) × Front bytes (each tableBytes site) rest
+all-tables-read ds bytes h =
+    let r = tables-read ds [] bytes h in
+    (rw (r .behind) (r .declared), rw (r .behind) (r .proper), rw (r .behind) (r .front))
+
+tables-written : (more done : Site) (rest : List ℕ) → all (λ t. rowsProper (t .rows)) more ≡ true
+    → tables (map declarationOf more) done (each tableBytes more ++ rest) ≡ gives (done ++ more, rest)
+unfolding tables after
+tables-written [] done rest g = rw append-nil refl
+tables-written (t ∷ more) done rest g =
+    let c = and-cases (rowsProper (t .rows)) (all (λ t. rowsProper (t .rows)) more) g in
+    rw (append-assoc, ← append-snoc, repeated-written row-reads rows-grow (t .rows) (each tableBytes more ++ rest) (c .0))
+    (tables-written more (done ++ t ∷ []) rest (c .1))
+
+-- ---- the file
+
+-- what is asked of the declarations is what a site is asked for them
+declared-site : (site : Site) → declaredProper (map declarationOf site) ≡ (predicatesProper site && leb (rowTotal site) mostRows)
+declared-site site = rw (map-map, all-map, sum-map) refl
+
+site-read : (bytes : List ℕ) {site : Site} {rest : List ℕ} → siteFile bytes ≡ gives (site, rest)
+    → (isSite site ≡ true) × Front bytes (siteBytes site) rest
+unfolding siteFile isSite siteBytes
+site-read bytes {site} h =
+    let p = number-gives 2 bytes _ h in
+    let a = ask-gives 3 (leb (p .0) mostPredicates) _ (p .3) in
+    let d = after-gives (repeated declaration (p .0) [] (p .1)) _ (a .1) in
+    let ds = repeated-read declaration-reads declared-grow (p .0) (p .1) (d .2) in
+    let t = all-tables-read (d .0) (d .1) (d .3) in
+    let count : length site ≡ p .0 = sym (length-map site declarationOf) ∙ ap length (t .0) ∙ ds .0 in
+    let c = and-cases (predicatesProper site) (leb (rowTotal site) mostRows) (sym (declared-site site) ∙ rw (t .0) (ds .1)) in
+    let few : leb (length site) mostPredicates ≡ true = rw count (a .0) in
+    (and-make (and-make few (c .1)) (and-make (c .0) (t .1)), rw (count, t .0) (front-then (p .2) (front-then (ds .2) (t .2))))
+
+-- what is written is read, whatever stands behind it
+site-back : (site : Site) (rest : List ℕ) → isSite site ≡ true → siteFile (siteBytes site ++ rest) ≡ gives (site, rest)
+unfolding siteFile isSite siteBytes after ask
+site-back site rest e =
+    let few = leb (length site) mostPredicates in
+    let total = leb (rowTotal site) mostRows in
+    let rows = all (λ t. rowsProper (t .rows)) site in
+    let c = and-cases (few && total) (predicatesProper site && rows) e in
+    let a = and-cases few total (c .0) in
+    let b = and-cases (predicatesProper site) rows (c .1) in
+    let l = leb-true (length site) mostPredicates (a .0) in
+    let g = declared-site site ∙ and-make (b .0) (a .1) in
+    let read = rw length-map at (repeated-written declaration-reads declared-grow (map declarationOf site) (each tableBytes site ++ rest) g) in
+    rw (append-assoc, number-written 2 (length site) _ (omega arith), a .0, append-assoc, read) (tables-written site [] rest (b .1))
+
+-- what is written is bytes
+site-bytes : (site : Site) → areBytes (siteBytes site) ≡ true
+unfolding siteBytes
+site-bytes site =
+    bytes-both (numberBytes (length site)) _ (number-bytes (length site))
+    (bytes-both (each declarationBytes (map declarationOf site)) (each tableBytes site)
+    (bytes-each declarationBytes (λ d. bytes-both (numberBytes (d .0)) (numberBytes (d .1)) (number-bytes (d .0)) (number-bytes (d .1))) (map declarationOf site))
+    (bytes-each tableBytes (λ t. bytes-each rowBytes (λ r. bytes-both (numberBytes (r .0)) (numberBytes (r .1)) (number-bytes (r .0)) (number-bytes (r .1))) (t .rows)) site))
+
+pub site-file : FileIsExact readSite siteBytes isSite
+unfolding readSite
+site-file = file-is-exact 8 (record { read = λ _ bytes h. site-read bytes h; written = λ _ site rest e. site-back site rest e }) site-bytes
