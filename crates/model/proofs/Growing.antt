@@ -59,7 +59,7 @@ pub map-grows : {A B : Type 0} (f : A → B) {good : List B → Bool} {test : Li
 map-grows f g = record { start = g .start; snoc = λ done x. rw map-append (g .snoc (map f done) (f x)) }
 
 module _ {A : Type 0} (f : A → ℕ) where
-  sum-snoc : (done : List A) (x : A) → sum f (done ++ x ∷ []) ≡ sum f done + f x
+  pub sum-snoc : (done : List A) (x : A) → sum f (done ++ x ∷ []) ≡ sum f done + f x
   sum-snoc [] x = omega arith
   sum-snoc (y ∷ ys) x = let r = sum-snoc ys x in omega arith
 

@@ -4,7 +4,7 @@ use native.Mathlib.Omega.{arith}
 use native.Mathlib.Nat.{not-suc-le-zero, le-of-suc-le-suc}
 use mathlib.Core.Path.{_≡_, refl, sym, ap, _∙_, subst}
 use mathlib.Core.Logic.{_⊎_, inl, inr}
-use mathlib.Core.Bool.{Bool, true, false, cond, _&&_, false≢true, and-assoc}
+use mathlib.Core.Bool.{Bool, true, false, cond, _&&_, _||_, false≢true, and-assoc, or-assoc}
 use mathlib.Core.List.{List, [], _∷_, _++_, List·Memᴰ·head, List·Memᴰ·tail, List·Memᴰ·not-nil, List·Memᴰ·cases-cons, Memᴰ·append-left, Memᴰ·append-right, List·Memᴰ·append-cases}
 use lib.ListN.{length, getD}
 use Rattle.model.specs.Lists.{_∈_, keep, any, all, each}
@@ -82,6 +82,19 @@ module _ {A : Type 0} (p : A → Bool) where
   pub all-append : (l m : List A) → all p (l ++ m) ≡ (all p l && all p m)
   all-append [] m = refl
   all-append (x ∷ xs) m = rw (all-append xs m) (sym (and-assoc (p x) (all p xs) (all p m)))
+
+  pub any-append : (l m : List A) → any p (l ++ m) ≡ (any p l || any p m)
+  any-append [] m = refl
+  any-append (x ∷ xs) m = rw (any-append xs m) (sym (or-assoc (p x) (any p xs) (any p m)))
+
+  pub keep-append : (l m : List A) → keep p (l ++ m) ≡ keep p l ++ keep p m
+  keep-append [] m = refl
+  keep-append (x ∷ xs) m = go (p x) (keep-append xs m)
+    where
+      go : (b : Bool) → keep p (xs ++ m) ≡ keep p xs ++ keep p m
+          → cond b (x ∷ keep p (xs ++ m)) (keep p (xs ++ m)) ≡ cond b (x ∷ keep p xs) (keep p xs) ++ keep p m
+      go true e = rw e refl
+      go false e = e
 
 module _ {A B : Type 0} (f : A → List B) where
   pub into-each : {y : B} {a : A} {l : List A} → a ∈ l → y ∈ f a → y ∈ each f l

@@ -4,7 +4,7 @@ use native.Mathlib.Omega.{arith}
 use mathlib.Core.Path.{_≡_, refl, ap, _∙_, subst}
 use mathlib.Core.Logic.{_⊎_, inl, inr}
 use mathlib.Core.Bool.{Bool, true, false, cond, _&&_}
-use mathlib.Core.List.{List, [], _∷_, _++_, map, map-append, append-nil, List·Memᴰ·head, List·Memᴰ·tail, Memᴰ·map, Memᴰ·of-map}
+use mathlib.Core.List.{List, [], _∷_, map, map-append, append-nil, List·Memᴰ·head, List·Memᴰ·tail, Memᴰ·map, Memᴰ·of-map}
 use lib.ListN.{length}
 use lib.Dec.{eqb, ltb, leb}
 use borrow.Author.Tests.{ltb-true, leb-true, eqb-true, eq-eqb, ne-eqb}
@@ -13,19 +13,10 @@ use Rattle.model.specs.Numbers.{isTerm}
 use Rattle.model.specs.Site.{Row, rowBefore, Table, Site, withinLimits, predicatesProper, rowsProper, isSite, mostPredicates, mostRows, rowTotal, Fact, factsOf, facts, IsFact, isDeclared}
 use Rattle.model.specs.Tables.{vp}
 use Rattle.model.proofs.Booleans.{and-cases, bool-cases, not-both, to-false}
-use Rattle.model.proofs.Membership.{from-keep, into-keep, into-any, from-any, from-all}
+use Rattle.model.proofs.Membership.{from-keep, into-keep, into-any, from-any, from-all, keep-append}
 use Rattle.model.proofs.Order.{numbers, first-before, ascends-tail}
 
 -- ---- general
-
-keep-append : {A : Type 0} (p : A → Bool) (l m : List A) → keep p (l ++ m) ≡ keep p l ++ keep p m
-keep-append p [] m = refl
-keep-append p (x ∷ xs) m = go (p x) (keep-append p xs m)
-  where
-    go : (b : Bool) → keep p (xs ++ m) ≡ keep p xs ++ keep p m
-        → cond b (x ∷ keep p (xs ++ m)) (keep p (xs ++ m)) ≡ cond b (x ∷ keep p xs) (keep p xs) ++ keep p m
-    go true e = rw e refl
-    go false e = e
 
 each-nothing : {A B : Type 0} (f : A → List B) (l : List A) → ((a : A) → a ∈ l → f a ≡ []) → each f l ≡ []
 each-nothing f [] h = refl

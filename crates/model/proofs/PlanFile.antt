@@ -1,8 +1,8 @@
 -- The plan file: every plan that is read is proper, what is written is read back, and what is accepted is what is written.
 use Prim.Native.Nat.{ℕ, zero, suc, _<_, _≤_}
 use native.Mathlib.Omega.{arith}
-use mathlib.Core.Path.{_≡_, refl, sym}
-use mathlib.Core.Bool.{Bool, true, false, _&&_, _||_, not, and-false, or-false, or-assoc}
+use mathlib.Core.Path.{_≡_, refl, sym, _∙_}
+use mathlib.Core.Bool.{Bool, true, false, _&&_, _||_, not, and-false, or-false}
 use mathlib.Core.List.{List, [], _∷_, _++_, append-assoc}
 use lib.ListN.{length}
 use lib.Dec.{eqb}
@@ -15,6 +15,7 @@ use Rattle.model.specs.Pattern.{Pattern, mostTriplePatterns}
 use Rattle.model.specs.Plan.{Step, Plan, isPlace, qualifies, partner, kindOf, mayChoose, placesOf, distinct, isStep, isProper}
 use Rattle.model.specs.PlanFile.{step, stepNumbers, readPlan, planBytes}
 use Rattle.model.proofs.Booleans.{and-cases, and-make, bool-ext}
+use Rattle.model.proofs.Membership.{any-append}
 use Rattle.model.proofs.Growing.{Grows, all-grows, both-grow, map-grows}
 use Rattle.model.proofs.Readers.{ask-gives, Front, front-then, Reads, returned, repeated-read, repeated-written, FileIsExact, file-is-exact}
 use Rattle.model.proofs.Numbers.{number-written, number-gives, bytes-each, number-bytes}
@@ -25,9 +26,8 @@ use Rattle.model.proofs.Places.{qualifying}
 eqb-comm : (a b : ℕ) → eqb a b ≡ eqb b a
 eqb-comm a b = bool-ext (eqb a b) (eqb b a) (λ h. eq-eqb b a (sym (eqb-true a b h))) (λ h. eq-eqb a b (sym (eqb-true b a h)))
 
-any-snoc : {A : Type 0} (p : A → Bool) (l : List A) (x : A) → any p (l ++ x ∷ []) ≡ (any p l || p x)
-any-snoc p [] x = or-false (p x)
-any-snoc p (y ∷ ys) x = rw (any-snoc p ys x) (sym (or-assoc (p y) (any p ys) (p x)))
+any-snoc : (p : ℕ → Bool) (l : List ℕ) (x : ℕ) → any p (l ++ x ∷ []) ≡ (any p l || p x)
+any-snoc p l x = any-append p l (x ∷ []) ∙ rw or-false refl
 
 regroup : (a b c d : Bool) → (not (a || b) && (c && not d)) ≡ (not a && c && not (b || d))
 regroup true b c d = refl

@@ -25,7 +25,7 @@ module _ {A B : Type 0} (f : A → B) where
   all-map p [] = refl
   all-map p (x ∷ xs) = rw (all-map p xs) refl
 
-  sum-map : (g : B → ℕ) (l : List A) → sum g (map f l) ≡ sum (λ x. g (f x)) l
+  pub sum-map : (g : B → ℕ) (l : List A) → sum g (map f l) ≡ sum (λ x. g (f x)) l
   sum-map g [] = refl
   sum-map g (x ∷ xs) = rw (sum-map g xs) refl
 
@@ -35,10 +35,10 @@ module _ {A B : Type 0} (f : A → B) where
 abbrev rowTest : List Row → Row → Bool
 rowTest done r = isTerm (r .0) && isTerm (r .1) && aboveLast rowBefore done r
 
-rows-grow : Grows rowsProper rowTest
+pub rows-grow : Grows rowsProper rowTest
 rows-grow = both-grow (all-grows (λ r. isTerm (r .0) && isTerm (r .1))) (ascends-grows rowBefore)
 
-row-reads : Reads row rowBytes rowTest
+pub row-reads : Reads row rowBytes rowTest
 unfolding row after ask
 row-reads = record {
   read = λ done bytes h.
@@ -68,10 +68,10 @@ declaredProper ds = all isTerm (declaredTerms ds) && ascends ltb (declaredTerms 
 abbrev declarationTest : List Declaration → Declaration → Bool
 declarationTest done d = isTerm (d .0) && aboveLast ltb (declaredTerms done) (d .0) && leb (declaredRows done + d .1) mostRows
 
-declared-grow : Grows declaredProper declarationTest
+pub declared-grow : Grows declaredProper declarationTest
 declared-grow = both-grow (map-grows (λ d. d .0) (both-grow (all-grows isTerm) (ascends-grows ltb))) (sum-grows (λ d. d .1) mostRows)
 
-declaration-reads : Reads declaration declarationBytes declarationTest
+pub declaration-reads : Reads declaration declarationBytes declarationTest
 unfolding declaration after ask
 declaration-reads = record {
   read = λ done bytes h.
@@ -120,7 +120,7 @@ tables-read (d ∷ ds) done bytes h =
       front = front-then (rows .2) (r .front);
     }
 
-all-tables-read : (ds : List Declaration) (bytes : List ℕ) {site : Site} {rest : List ℕ} → tables ds [] bytes ≡ gives (site, rest)
+pub all-tables-read : (ds : List Declaration) (bytes : List ℕ) {site : Site} {rest : List ℕ} → tables ds [] bytes ≡ gives (site, rest)
     → (map declarationOf site ≡ ds) × (all (λ t. rowsProper (t .rows)) site ≡ true) × Front bytes (each tableBytes site) rest
 all-tables-read ds bytes h =
     let r = tables-read ds [] bytes h in

@@ -26,7 +26,7 @@ module _ {A : Type 0} (rows : A → List Row) where
   abbrev size : List A → ℕ
   size xs = 2 * sum (λ x. length (rows x)) xs
 
-  length-all : (xs : List A) → length (allWords xs) ≡ size xs
+  pub length-all : (xs : List A) → length (allWords xs) ≡ size xs
   length-all [] = refl
   length-all (x ∷ xs) = let e = length-all xs in let f = length-table (rows x) in rw length-append (omega arith)
 
@@ -39,18 +39,18 @@ module _ {A : Type 0} (rows : A → List Row) where
     entries here [] = []
     entries here (x ∷ xs) = entry here x ++ entries (here + 2 * length (rows x)) xs
 
-    entries-append : (here : ℕ) (xs ys : List A) → entries here (xs ++ ys) ≡ entries here xs ++ entries (here + size xs) ys
+    pub entries-append : (here : ℕ) (xs ys : List A) → entries here (xs ++ ys) ≡ entries here xs ++ entries (here + size xs) ys
     entries-append here [] ys = rw add-zero refl
     entries-append here (x ∷ xs) ys =
         let s : here + size (x ∷ xs) ≡ here + 2 * length (rows x) + size xs = omega arith in
         rw (s, append-assoc) (ap (λ (l : List ℕ). entry here x ++ l) (entries-append (here + 2 * length (rows x)) xs ys))
 
     module _ (n : ℕ) (h : (here : ℕ) (x : A) → length (entry here x) ≡ n) where
-      length-entries : (here : ℕ) (xs : List A) → length (entries here xs) ≡ n * length xs
+      pub length-entries : (here : ℕ) (xs : List A) → length (entries here xs) ≡ n * length xs
       length-entries here [] = sym (mul-zero n)
       length-entries here (x ∷ xs) = rw (length-append, h here x, length-entries (here + 2 * length (rows x)) xs, mul-suc) (add-comm n (n * length xs))
 
-      entry-block : (here : ℕ) {xs : List A} {i : ℕ} {x : A} (b : Block xs i (x ∷ []))
+      pub entry-block : (here : ℕ) {xs : List A} {i : ℕ} {x : A} (b : Block xs i (x ∷ []))
           → Block (entries here xs) (n * i) (entry (here + size (b .before)) x)
       entry-block here {xs} {i} {x} b = record {
         before = entries here (b .before);
@@ -60,22 +60,22 @@ module _ {A : Type 0} (rows : A → List Row) where
       }
 
       -- among words that hold the entries and the rows: an entry, and its rows at the start that it gives
-      entry-and-rows : {words : List ℕ} {first here i : ℕ} {xs : List A} {x : A} → Block words first (entries here xs) → Block words here (allWords xs)
+      pub entry-and-rows : {words : List ℕ} {first here i : ℕ} {xs : List A} {x : A} → Block words first (entries here xs) → Block words here (allWords xs)
           → Block xs i (x ∷ []) → (start : ℕ) × Block words (first + n * i) (entry start x) × Block words start (tableWords (rows x))
       entry-and-rows {here} es rs b = (here + size (b .before), inner-block es (entry-block here b), inner-block rs (rows-block b))
 
-abbrev vpEntry : ℕ → Table → List ℕ
+abbrev pub vpEntry : ℕ → Table → List ℕ
 vpEntry here x = x .predicate ∷ length (x .rows) ∷ here ∷ []
 
-vp-entries : (here : ℕ) (site : Site) → vpEntries here site ≡ entries (λ x. x .rows) vpEntry here site
+pub vp-entries : (here : ℕ) (site : Site) → vpEntries here site ≡ entries (λ x. x .rows) vpEntry here site
 unfolding vpEntries
 vp-entries here [] = refl
 vp-entries here (x ∷ xs) = rw (vp-entries (here + 2 * length (x .rows)) xs) refl
 
-abbrev semiJoinEntry : ℕ → ℕ → Reduced → List ℕ
+abbrev pub semiJoinEntry : ℕ → ℕ → Reduced → List ℕ
 semiJoinEntry t here x = length (x .rows) ∷ cond (isKept t x) here 0 ∷ []
 
-semi-join-entries : (t here : ℕ) (xs : List Reduced) → semiJoinEntries t here xs ≡ entries (kept t) (semiJoinEntry t) here xs
+pub semi-join-entries : (t here : ℕ) (xs : List Reduced) → semiJoinEntries t here xs ≡ entries (kept t) (semiJoinEntry t) here xs
 unfolding semiJoinEntries
 semi-join-entries t here [] = refl
 semi-join-entries t here (x ∷ xs) = rw (semi-join-entries t (here + 2 * length (kept t x)) xs) refl
@@ -101,14 +101,14 @@ againstAll site p = each (against p) site
 length-against-all : (site : Site) (p : Table) → length (againstAll site p) ≡ length site * kindCount
 length-against-all site p = length-each (against p) kindCount (λ q. refl) site
 
-length-semi-joins : (site : Site) → length (semiJoins site) ≡ length site * (length site * kindCount)
+pub length-semi-joins : (site : Site) → length (semiJoins site) ≡ length site * (length site * kindCount)
 unfolding semiJoins
 length-semi-joins site = length-each (againstAll site) (length site * kindCount) (length-against-all site) site
 
 kind-block : (p q : Table) (k : ℕ) → k < kindCount → Block (against p q) k (reduced p q (kindAt k) ∷ [])
 kind-block p q k h = rw (← (List·getD-map (reduced p q) kinds k (kindAt 0))) (element-block (reduced p q (kindAt 0)) (against p q) k h)
 
-semi-join-block : (site : Site) (i j k : ℕ) → i < length site → j < length site → k < kindCount
+pub semi-join-block : (site : Site) (i j k : ℕ) → i < length site → j < length site → k < kindCount
     → Block (semiJoins site) ((i * length site + j) * kindCount + k) (reduced (tableAt site i) (tableAt site j) (kindAt k) ∷ [])
 unfolding semiJoins
 semi-join-block site i j k hi hj hk =
@@ -119,10 +119,10 @@ semi-join-block site i j k hi hj hk =
 
 -- ---- the parts of the layout
 
-length-vp-entries : (here : ℕ) (site : Site) → length (vpEntries here site) ≡ 3 * length site
+pub length-vp-entries : (here : ℕ) (site : Site) → length (vpEntries here site) ≡ 3 * length site
 length-vp-entries here site = rw (vp-entries here site) (length-entries (λ x. x .rows) vpEntry 3 (λ here x. refl) here site)
 
-length-semi-join-entries : (t here : ℕ) (site : Site) → length (semiJoinEntries t here (semiJoins site)) ≡ 2 * (length site * (length site * kindCount))
+pub length-semi-join-entries : (t here : ℕ) (site : Site) → length (semiJoinEntries t here (semiJoins site)) ≡ 2 * (length site * (length site * kindCount))
 length-semi-join-entries t here site =
     rw (semi-join-entries t here (semiJoins site), ← (length-semi-joins site)) (length-entries (kept t) (semiJoinEntry t) 2 (λ here x. refl) here (semiJoins site))
 
@@ -149,7 +149,7 @@ module _ (t : ℕ) (site : Site) where
   entriesOfSemiJoins = semiJoinEntries t (storedStart site) (semiJoins site)
 
   -- all before the rows
-  abbrev front : List ℕ
+  abbrev pub front : List ℕ
   front = first ++ (entriesOfVp ++ entriesOfSemiJoins)
 
   length-front : length front ≡ rowsStart (length site)
@@ -159,7 +159,7 @@ module _ (t : ℕ) (site : Site) where
       simp length-append (omega arith)
 
   -- all before the stored tables' rows
-  length-before-kept : length (front ++ vpWords site) ≡ storedStart site
+  pub length-before-kept : length (front ++ vpWords site) ≡ storedStart site
   length-before-kept = rw (length-append front (vpWords site), length-front, length-all (λ x. x .rows) site) refl
 
   pub layout-used : wordsUsed words ≡ length words

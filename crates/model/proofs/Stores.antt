@@ -53,11 +53,11 @@ store-sound words store e =
 
 -- ---- the words of a site decode to it
 
-rows-back : (rows : List Row) (rest : List ℕ) → rowsIn (length rows) (tableWords rows ++ rest) ≡ rows
+pub rows-back : (rows : List Row) (rest : List ℕ) → rowsIn (length rows) (tableWords rows ++ rest) ≡ rows
 rows-back [] rest = refl
 rows-back (r ∷ rs) rest = ap (λ (l : List Row). r ∷ l) (rows-back rs rest)
 
-tables-back : (here : ℕ) (site : Site) (more rest : List ℕ) → rowTotal site ≤ mostRows → tablesIn (length site) (vpEntries here site ++ more) (vpWords site ++ rest) ≡ site
+pub tables-back : (here : ℕ) (site : Site) (more rest : List ℕ) → rowTotal site ≤ mostRows → tablesIn (length site) (vpEntries here site ++ more) (vpWords site ++ rest) ≡ site
 unfolding tablesIn vpEntries
 tables-back here [] more rest h = refl
 tables-back here (t ∷ ts) more rest h =

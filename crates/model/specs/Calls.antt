@@ -57,12 +57,17 @@ unaltered memory n = outcome (Refused n) memory
 
 -- ---- build
 
+-- question 9, and the words of a site over the memory
+abbrev pub filled : ℕ → Site → List ℕ → Outcome
+filled t site memory =
+    either (unaltered memory) (question 9 (leb (length (layout t site)) (length memory))) λ _.
+    outcome (Built (length (layout t site))) (over (layout t site) memory)
+
 unfoldable pub build : ℕ → List ℕ → List ℕ → Outcome
 build t bytes memory =
     either (unaltered memory) (question 1 (leb t mostThreshold)) λ _.
     either (unaltered memory) (readSite bytes) λ site.
-    either (unaltered memory) (question 9 (leb (length (layout t site)) (length memory))) λ _.
-    outcome (Built (length (layout t site))) (over (layout t site) memory)
+    filled t site memory
 
 -- ---- plan
 
