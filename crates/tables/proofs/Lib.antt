@@ -1,0 +1,4 @@
+pub mod Groups
+pub mod Setting
+pub mod Rows
+pub mod Partners
