@@ -1,0 +1,111 @@
+-- The semi-joins of an image: the tables and the kind of each, and how many rows it leaves.
+use Prim.Native.Nat.{ℕ, zero, suc, _+_, _*_, _/_, _%_, _≤_, _<_}
+use native.Mathlib.Nat.{mod-lt, div-add-mod', div-lt-iff-lt-mul}
+use native.Mathlib.Omega.{arith}
+use mathlib.Core.Path.{_≡_, refl, sym, ap, _∙_}
+use mathlib.Core.Bool.{Bool, true, false, cond}
+use mathlib.Core.List.{List, [], _∷_}
+use lib.ListN.{length, getD}
+use Rattle.model.specs.Lists.{keep}
+use Rattle.model.specs.Site.{Site, rowTotal, mostRows}
+use Rattle.model.specs.Tables.{kindCount, kindAt, semiJoin, isStored}
+use Rattle.model.specs.Store.{Reduced, isKept}
+use Rattle.model.proofs.Partition.{proper}
+use Rattle.model.proofs.Blocks.{head-block}
+use Rattle.model.proofs.StoreLayout.{tableAt, leftAt, semi-join-block}
+use Rattle.tables.specs.Columns.{columnOf}
+use Rattle.building.specs.Built.{siteIn, ImageOf, noReduced, reducedAt, OperandsOf}
+use Rattle.building.proofs.Images.{table-in}
+
+-- ---- the tables and the kind
+
+-- the places of the x-th semi-join's tables, of `count` predicates
+abbrev pub ownOf : ℕ → ℕ → ℕ
+ownOf count x = x / kindCount / count
+
+abbrev pub partnerOf : ℕ → ℕ → ℕ
+partnerOf count x = x / kindCount % count
+
+pub some-predicate : (count : ℕ) {x : ℕ} → x < count * (count * kindCount) → 0 < count
+some-predicate zero h = absurd (omega arith)
+some-predicate (suc count) h = omega arith
+
+pub own-below : {count x : ℕ} → x < count * (count * kindCount) → ownOf count x < count
+own-below {count} h = div-lt-iff-lt-mul (some-predicate count h) .1 (omega arith)
+
+pub partner-below : {count x : ℕ} → x < count * (count * kindCount) → partnerOf count x < count
+partner-below {count} {x} h = mod-lt (x / kindCount) (some-predicate count h)
+
+reduced-at : (site : Site) (x : ℕ) → x < length site * (length site * kindCount)
+    → reducedAt site x
+    ≡ record { full = tableAt site (ownOf (length site) x) .rows; rows = leftAt site (ownOf (length site) x) (partnerOf (length site) x) (x % kindCount) }
+reduced-at site x h =
+    let p = length site in
+    let back : (ownOf p x * p + partnerOf p x) * kindCount + x % kindCount ≡ x = rw (div-add-mod' (x / kindCount) p) (div-add-mod' x kindCount) in
+    rw back at (head-block (semi-join-block site (ownOf p x) (partnerOf p x) (x % kindCount) (own-below h) (partner-below h) (omega arith)) noReduced)
+
+-- ---- how many rows
+
+keep-fewer : {A : Type 0} (p : A → Bool) (l : List A) → length (keep p l) ≤ length l
+keep-fewer p [] = omega arith
+keep-fewer {A} p (x ∷ xs) = go (p x) (keep-fewer p xs)
+  where
+    go : (b : Bool) → length (keep p xs) ≤ length xs → length (cond b (x ∷ keep p xs) (keep p xs)) ≤ suc (length xs)
+    go true h = omega arith
+    go false h = omega arith
+
+table-fewer : (site : Site) (i : ℕ) → length (tableAt site i .rows) ≤ rowTotal site
+table-fewer [] i = omega arith
+table-fewer (t ∷ ts) zero = omega arith
+table-fewer (t ∷ ts) (suc i) = omega (arith, table-fewer ts i)
+
+-- the x-th semi-join leaves n of m rows
+pub record Counted (site : Site) (x n m : ℕ) : Type 0 where
+  pub left : n ≡ length (reducedAt site x .rows)
+  pub full : m ≡ length (reducedAt site x .full)
+  pub few : n ≤ mostRows
+  pub full-few : m ≤ mostRows
+
+pub counted-kept : {site : Site} {x n m : ℕ} → Counted site x n m → (t : ℕ) → isStored t n m ≡ isKept t (reducedAt site x)
+counted-kept c t = rw (c .left, c .full) refl
+
+-- ---- of an image
+
+module _ {count : ℕ} {image : List ℕ} (o : ImageOf count image) (x : ℕ) (h : x < count * (count * kindCount)) where
+  abbrev site : Site
+  site = siteIn count image
+
+  reduced-of : reducedAt site x ≡ record { full = tableAt site (ownOf count x) .rows; rows = leftAt site (ownOf count x) (partnerOf count x) (x % kindCount) }
+  reduced-of = rw (o .predicates) at (reduced-at site x (rw (o .predicates) h))
+
+  -- what the entries of the tables say is what the semi-join is of
+  pub operands-of : (own other : ℕ) → (own < 2) × (columnOf own ≡ kindAt (x % kindCount) .0) → (other < 2) × (columnOf other ≡ kindAt (x % kindCount) .1)
+      → OperandsOf site image x (record {
+        start = getD image (3 + 3 * ownOf count x + 2) 0;
+        rows = getD image (3 + 3 * ownOf count x + 1) 0;
+        own = own;
+        against = getD image (3 + 3 * partnerOf count x + 2) 0;
+        partners = getD image (3 + 3 * partnerOf count x + 1) 0;
+        other = other;
+      })
+  operands-of own other ownColumn otherColumn =
+      let table = table-in o (ownOf count x) (own-below h) in
+      let partner = table-in o (partnerOf count x) (partner-below h) in
+      record {
+        inside = table .inside;
+        partner-inside = partner .inside;
+        own-column = ownColumn .0;
+        partner-column = otherColumn .0;
+        full = table .count ∙ sym (ap (λ (r : Reduced). length (r .full)) reduced-of);
+        left = rw (table .back, partner .back, ownColumn .1, otherColumn .1) (sym (ap (λ (r : Reduced). r .rows) reduced-of));
+      }
+
+  full-few : length (reducedAt site x .full) ≤ mostRows
+  full-few = rw reduced-of (omega (arith, table-fewer site (ownOf count x), proper site (o .proper) .row-limit))
+
+  left-fewer : length (reducedAt site x .rows) ≤ length (reducedAt site x .full)
+  unfolding semiJoin
+  left-fewer = rw reduced-of (keep-fewer _ (tableAt site (ownOf count x) .rows))
+
+  pub counted-of : {n m : ℕ} → n ≡ length (reducedAt site x .rows) → m ≡ length (reducedAt site x .full) → Counted site x n m
+  counted-of e f = record { left = e; full = f; few = omega (arith, left-fewer, full-few); full-few = omega (arith, full-few) }

@@ -1,0 +1,173 @@
+-- What has been written when the first x semi-joins are done: their entries in the image, their rows in the store.
+use Prim.Native.Nat.{ℕ, _+_, _*_, _≤_, _<_}
+use native.Mathlib.Nat.{le-refl}
+use native.Mathlib.Numerals.{add-one}
+use native.Mathlib.Omega.{arith}
+use mathlib.Core.Path.{_≡_, refl, sym, ap, _∙_}
+use mathlib.Core.Logic.{inl, inr}
+use mathlib.Core.Bool.{Bool, true, false, cond}
+use mathlib.Core.List.{List, [], _∷_, _++_, append-nil}
+use lib.ListN.{length, getD, take, drop, set, length-append, take-append-drop}
+use lib.Seq.{length-take-le, take-all, take-suc, sets, length-sets}
+use Rattle.model.specs.Site.{Row, mostRows}
+use Rattle.model.specs.Tables.{kindCount}
+use Rattle.model.specs.Store.{Reduced, semiJoins, isKept, kept, tableWords, semiJoinEntries, storedStart, keptWords, layout}
+use Rattle.model.proofs.Blocks.{element-block, getD-block, head-block, each-append}
+use Rattle.model.proofs.StoreLayout.{length-table, length-all, entries-append, length-entries, entry-block, semiJoinEntry, semi-join-entries, length-semi-joins, layout-used}
+use Rattle.building.specs.Built.{siteIn, ImageOf, noReduced, reducedAt, CountsIn}
+use Rattle.tables.proofs.Setting.{sets-append, sets-two, getD-sets, sets-block}
+use Rattle.building.proofs.Images.{image-kept, few-predicates, few-semi-joins}
+
+-- ---- one semi-join more
+
+length-entries-of : (t first : ℕ) (xs : List Reduced) → length (semiJoinEntries t first xs) ≡ 2 * length xs
+length-entries-of t first xs = rw (semi-join-entries t first xs) (length-entries (kept t) (semiJoinEntry t) 2 (λ here x. refl) first xs)
+
+entries-more : (t first : ℕ) (xs : List Reduced) (r : Reduced)
+    → semiJoinEntries t first (xs ++ (r ∷ [])) ≡ semiJoinEntries t first xs ++ semiJoinEntry t (first + length (keptWords t xs)) r
+entries-more t first xs r =
+    rw (semi-join-entries t first (xs ++ (r ∷ [])), semi-join-entries t first xs, length-all (kept t) xs) (entries-append (kept t) (semiJoinEntry t) first xs (r ∷ []))
+
+kept-more : (t : ℕ) (xs : List Reduced) (r : Reduced) → keptWords t (xs ++ (r ∷ [])) ≡ keptWords t xs ++ tableWords (kept t r)
+kept-more t xs r = each-append (λ (x : Reduced). tableWords (kept t x)) xs (r ∷ []) ∙ ap (λ (l : List ℕ). keptWords t xs ++ l) (append-nil (tableWords (kept t r)))
+
+take-more : (xs : List Reduced) (x : ℕ) → x < length xs → take (x + 1) xs ≡ take x xs ++ (getD xs x noReduced ∷ [])
+take-more xs x h = rw add-one (take-suc xs x noReduced h)
+
+-- what a semi-join leaves, if it is stored
+abbrev leftIf : Bool → List Reduced → ℕ → List Row
+leftIf b xs x = cond b (getD xs x noReduced .rows) []
+
+module _ (t : ℕ) (xs : List Reduced) (x : ℕ) (h : x < length xs) (b : Bool) (e : b ≡ isKept t (getD xs x noReduced)) where
+  kept-take : keptWords t (take (x + 1) xs) ≡ keptWords t (take x xs) ++ tableWords (leftIf b xs x)
+  unfolding kept
+  kept-take = rw (take-more xs x h, kept-more t (take x xs) (getD xs x noReduced), e) refl
+
+  used-take : (first next : ℕ) → next ≡ first + length (keptWords t (take x xs))
+      → cond b (next + 2 * length (getD xs x noReduced .rows)) next ≡ first + length (keptWords t (take (x + 1) xs))
+  used-take first next f = rw kept-take (go b)
+    where
+      go : (b : Bool) → cond b (next + 2 * length (getD xs x noReduced .rows)) next ≡ first + length (keptWords t (take x xs) ++ tableWords (leftIf b xs x))
+      go true = let l = length-table (leftIf true xs x) in rw length-append (omega arith)
+      go false = rw append-nil f
+
+-- ---- the entries in the image
+
+-- x entries are written, the first at `at`; the rows of their stored tables go from `first` up to `here`
+pub record Filled (t at first : ℕ) (xs : List Reduced) (image₀ image : List ℕ) (here x : ℕ) : Type 0 where
+  pub written : image ≡ sets image₀ at (semiJoinEntries t first (take x xs))
+  pub used : here ≡ first + length (keptWords t (take x xs))
+  pub near : here ≤ first + 2 * mostRows * x
+
+pub filled-none : (t at first : ℕ) (xs : List Reduced) (image : List ℕ) → Filled t at first xs image image first 0
+unfolding semiJoinEntries
+filled-none t at first xs image = record { written = refl; used = omega arith; near = omega arith }
+
+pub filled-more : {t at first : ℕ} {xs : List Reduced} {image₀ image : List ℕ} {here x : ℕ} → Filled t at first xs image₀ image here x → x < length xs
+    → (b : Bool) → b ≡ isKept t (getD xs x noReduced) → (n : ℕ) → n ≡ length (getD xs x noReduced .rows) → n ≤ mostRows
+    → Filled t at first xs image₀ (set (set image (at + 2 * x) n) (at + 2 * x + 1) (cond b here 0)) (cond b (here + 2 * n) here) (x + 1)
+filled-more {t} {at} {first} {xs} {image₀} {image} {here} {x} f h b e n counted few =
+    let done = take x xs in
+    let es = semiJoinEntries t first done in
+    let r = getD xs x noReduced in
+    let place : at + 2 * x ≡ at + length es = omega (arith, length-entries-of t first done, length-take-le x xs (omega arith)) in
+    record {
+      written = rw (take-more xs x h, entries-more t first done r, f .written, place, counted, e, f .used) (sets-two image₀ at es _ _);
+      used = rw counted (used-take t xs x h b e first here (f .used));
+      near = go b;
+    }
+  where
+    go : (b : Bool) → cond b (here + 2 * n) here ≤ first + 2 * mostRows * (x + 1)
+    go true = omega arith
+    go false = omega arith
+
+-- the image's semi-joins
+module _ {count : ℕ} {image₀ : List ℕ} (o : ImageOf count image₀) where
+  abbrev all : List Reduced
+  all = semiJoins (siteIn count image₀)
+
+  pub length-all-of : length all ≡ count * (count * kindCount)
+  length-all-of = rw (o .predicates) at (length-semi-joins (siteIn count image₀))
+
+  module _ {t first x here : ℕ} {image : List ℕ} (f : Filled t (3 + 3 * count) first all image₀ image here x) where
+    -- the site is as it was
+    pub filled-image : x ≤ count * (count * kindCount) → ImageOf count image × (siteIn count image ≡ siteIn count image₀)
+    filled-image h =
+        let es = semiJoinEntries t first (take x all) in
+        let n = length-entries-of t first (take x all) in
+        let m = length-take-le x all (rw length-all-of h) in
+        rw (f .written) (image-kept o (3 + 3 * count) es (inr (omega arith)) (omega arith))
+
+    module _ (h : x ≡ count * (count * kindCount)) where
+      whole : take x all ≡ all
+      whole = take-all x all (rw (length-all-of, h) (le-refl _))
+
+      pub filled-written : image ≡ sets image₀ (3 + 3 * count) (semiJoinEntries t first all)
+      filled-written = rw whole at (f .written)
+
+      pub filled-used : first ≡ storedStart (siteIn count image₀) → here ≡ length (layout t (siteIn count image₀))
+      unfolding layout
+      filled-used e = f .used ∙ rw (whole, e) (layout-used t (siteIn count image₀))
+
+  -- every entry is written, and then the front: the image of the same site, with the counts of its semi-joins
+  module _ (t first : ℕ) (front : List ℕ) (short : length front ≤ 3) where
+    abbrev entered : List ℕ
+    entered = sets image₀ (3 + 3 * count) (semiJoinEntries t first all)
+
+    length-entered : length (semiJoinEntries t first all) ≡ 2 * (count * (count * kindCount))
+    length-entered = length-entries-of t first all ∙ ap (λ (k : ℕ). 2 * k) length-all-of
+
+    image-entered : ImageOf count entered × (siteIn count entered ≡ siteIn count image₀)
+    image-entered = image-kept o (3 + 3 * count) (semiJoinEntries t first all) (inr (omega arith)) (omega (arith, length-entered))
+
+    pub image-fronted : ImageOf count (sets entered 0 front) × (siteIn count (sets entered 0 front) ≡ siteIn count image₀)
+    image-fronted =
+        let x = image-kept (image-entered .0) 0 front (inl (omega arith)) (omega arith) in
+        (x .0, x .1 ∙ image-entered .1)
+
+    entry-count : (x : ℕ) → x < count * (count * kindCount) → getD entered (3 + 3 * count + 2 * x) 0 ≡ length (reducedAt (siteIn count image₀) x .rows)
+    entry-count x h =
+        let es = semiJoinEntries t first all in
+        let n = length-entered in
+        let few = few-predicates o in
+        let fewer = few-semi-joins few in
+        let entry = entry-block (kept t) (semiJoinEntry t) 2 (λ here r. refl) first (element-block noReduced all x (rw length-all-of h)) in
+        getD-block (sets-block image₀ (3 + 3 * count) es (omega arith)) (2 * x) 0 (omega arith)
+        ∙ rw (semi-join-entries t first all) (head-block entry 0)
+
+    pub counts-fronted : CountsIn count (sets entered 0 front)
+    counts-fronted = record {
+      counts = λ x h. getD-sets entered 0 front (3 + 3 * count + 2 * x) 0 (omega arith) ∙ rw (image-fronted .1) (entry-count x h);
+    }
+
+-- ---- the rows in the store
+
+-- the rows of the stored tables of x semi-joins are written, from `first` up to `next`
+pub record Stored (t first : ℕ) (xs : List Reduced) (store₀ store : List ℕ) (next x : ℕ) : Type 0 where
+  pub written : store ≡ sets store₀ first (keptWords t (take x xs))
+  pub used : next ≡ first + length (keptWords t (take x xs))
+
+pub stored-none : (t first : ℕ) (xs : List Reduced) (store : List ℕ) → Stored t first xs store store first 0
+stored-none t first xs store = record { written = refl; used = omega arith }
+
+module _ {t first next x : ℕ} {xs : List Reduced} {store₀ store : List ℕ} (s : Stored t first xs store₀ store next x) (h : x < length xs) where
+  pub stored-more : (b : Bool) → b ≡ isKept t (getD xs x noReduced)
+      → Stored t first xs store₀ (sets store next (tableWords (leftIf b xs x))) (cond b (next + 2 * length (getD xs x noReduced .rows)) next) (x + 1)
+  stored-more b e = record {
+    written = rw (kept-take t xs x h b e, s .written, s .used) (sym (sets-append store₀ first (keptWords t (take x xs)) (tableWords (leftIf b xs x))));
+    used = used-take t xs x h b e first next (s .used);
+  }
+
+  -- there is room for the next rows where there is for all
+  pub stored-room : true ≡ isKept t (getD xs x noReduced) → first + length (keptWords t xs) ≤ length store₀
+      → next + 2 * length (getD xs x noReduced .rows) ≤ length store
+  stored-room e room =
+      let m = stored-more true e in
+      let n = length-append (keptWords t (take (x + 1) xs)) (keptWords t (drop (x + 1) xs)) in
+      let split : keptWords t xs ≡ keptWords t (take (x + 1) xs) ++ keptWords t (drop (x + 1) xs) =
+      ap (keptWords t) (sym (take-append-drop (x + 1) xs)) ∙ each-append (λ (r : Reduced). tableWords (kept t r)) (take (x + 1) xs) (drop (x + 1) xs) in
+      rw (s .written, length-sets) (omega (arith, m .used, ap length split))
+
+pub stored-all : {t first next x : ℕ} {xs : List Reduced} {store₀ store : List ℕ} → Stored t first xs store₀ store next x → x ≡ length xs
+    → store ≡ sets store₀ first (keptWords t xs)
+stored-all {x = x} {xs = xs} s h = rw (take-all x xs (rw h (le-refl (length xs)))) at (s .written)

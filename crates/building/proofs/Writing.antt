@@ -1,0 +1,45 @@
+-- Words that are written one behind the other.
+use Prim.Native.Nat.{ℕ, _+_, _*_}
+use native.Mathlib.Nat.{add-zero}
+use native.Mathlib.Numerals.{add-one, add-two}
+use native.Mathlib.Omega.{arith}
+use mathlib.Core.Path.{_≡_, refl}
+use mathlib.Core.List.{List, [], _∷_, _++_, append-nil}
+use lib.ListN.{length, set}
+use lib.Seq.{sets}
+use Rattle.model.specs.Lists.{sum}
+use Rattle.model.specs.Site.{Table, Site, rowTotal}
+use Rattle.model.specs.SiteFile.{Declaration}
+use Rattle.model.specs.Store.{tableWords, vpWords}
+use Rattle.model.proofs.Blocks.{each-append}
+use Rattle.model.proofs.StoreLayout.{length-all}
+use Rattle.tables.proofs.Setting.{sets-append}
+use Rattle.building.specs.Image.{declaredEntries}
+
+-- ---- entries
+
+declared-snoc : (here : ℕ) (done : List Declaration) (d : Declaration)
+    → declaredEntries here (done ++ d ∷ []) ≡ declaredEntries here done ++ (d .0 ∷ d .1 ∷ (here + 2 * sum (λ d. d .1) done) ∷ [])
+declared-snoc here [] d = rw add-zero refl
+declared-snoc here (x ∷ xs) d =
+    let e : here + 2 * (x .1 + sum (λ d. d .1) xs) ≡ here + 2 * x .1 + 2 * sum (λ d. d .1) xs = omega arith in
+    rw (e, declared-snoc (here + 2 * x .1) xs d) refl
+
+pub length-declared : (here : ℕ) (ds : List Declaration) → length (declaredEntries here ds) ≡ 3 * length ds
+length-declared here [] = refl
+length-declared here (d ∷ ds) = let e = length-declared (here + 2 * d .1) ds in omega arith
+
+-- an entry behind those of the declarations done
+pub declaration-written : (image₀ image : List ℕ) (here : ℕ) (done : List Declaration) (d : Declaration) → image ≡ sets image₀ 3 (declaredEntries here done)
+    → set (set (set image (3 + 3 * length done) (d .0)) (3 + 3 * length done + 1) (d .1)) (3 + 3 * length done + 2) (here + 2 * sum (λ d. d .1) done)
+    ≡ sets image₀ 3 (declaredEntries here (done ++ d ∷ []))
+declaration-written image₀ image here done d e =
+    rw (e, declared-snoc here done d, sets-append image₀ 3 (declaredEntries here done) (d .0 ∷ d .1 ∷ (here + 2 * sum (λ d. d .1) done) ∷ []), length-declared here done, add-one, add-two) refl
+
+-- ---- tables
+
+-- a table's rows behind those of the tables done
+pub table-written : (image₀ image : List ℕ) (start to : ℕ) (done : Site) (t : Table) → image ≡ sets image₀ start (vpWords done) → to ≡ start + 2 * rowTotal done
+    → sets image to (tableWords (t .rows)) ≡ sets image₀ start (vpWords (done ++ t ∷ []))
+table-written image₀ image start to done t e h =
+    rw (e, h, each-append (λ t. tableWords (t .rows)) done (t ∷ []), append-nil (tableWords (t .rows)), sets-append image₀ start (vpWords done) (tableWords (t .rows)), length-all (λ t. t .rows) done) refl

@@ -1,0 +1,180 @@
+-- The invariant: the entries of the first x semi-joins are written; the numbers are small, and the image is long enough.
+use Prim.Native.Nat.{_+_, _*_, _-_, _≤_, _<_}
+use native.Mathlib.Omega.{arith}
+use mathlib.Core.Path.{_≡_, refl, sym, _∙_}
+use mathlib.Core.Logic.{⊎-elim}
+use mathlib.Core.Bool.{true, false}
+use lib.ListN.{length, length-set}
+use borrow.Author.Needs.{needs}
+use Rattle.model.specs.Site.{mostPredicates}
+use Rattle.model.specs.Store.{semiJoins}
+use Rattle.building.specs.Image.{imageWords}
+use Rattle.building.specs.Built.{siteIn}
+use Rattle.building.proofs.Images.{mostSemiJoins, few-predicates, few-semi-joins, stored-start-inside}
+use Rattle.building.proofs.Entries.{Counted, counted-kept, counted-of}
+use Rattle.building.proofs.Filling.{Filled, filled-none, filled-more, length-all-of, filled-image, filled-written, filled-used}
+use Rattle.building.proofs.builder.fill_entries.Statement.{statement}
+use Rattle.building.proofs.builder.fill_entries.Tie as tie
+
+abbrev Inv-loop : tie.InvT-loop
+Inv-loop t count image₀ first here₀ x₀ x-end image here x =
+    (x ≤ x-end) × (count ≤ mostPredicates) × (x-end ≤ mostSemiJoins) × (first ≤ imageWords) × (length image ≡ length image₀)
+    × Filled t (3 + 3 * count) first (semiJoins (siteIn count image₀)) image₀ image here x
+
+abbrev μ-loop : tie.MeasureT-loop
+μ-loop t count image₀ first here₀ x₀ x-end image here x = x-end - x
+
+mul-x-end : tie.Need-mul-x-end Inv-loop μ-loop
+mul-x-end c = omega (arith, few-predicates (c .before .pre .0))
+
+mul-x-end-2 : tie.Need-mul-x-end-2 Inv-loop μ-loop
+mul-x-end-2 c = omega (arith, few-semi-joins (few-predicates (c .before .pre .0)))
+
+loop-holds : tie.Need-loop-holds Inv-loop μ-loop
+loop-holds c =
+    let a = c .before .args in
+    let o = c .before .pre .0 in
+    let few = few-predicates o in
+    (omega arith, few, few-semi-joins few, rw (c .before .pre .2) (stored-start-inside o), refl, filled-none (a .t) (3 + 3 * a .count) (a .first) _ (a .image .now))
+
+operands-at-requires : tie.Need-operands-at-requires Inv-loop μ-loop
+operands-at-requires c κs =
+    let l = c .before .before in
+    (filled-image (l .before .before .pre .0) (l .loop .inv .5) (l .loop .inv .0) .0, c .before .loop-test .taken)
+
+count-semi-join-requires : tie.Need-count-semi-join-requires Inv-loop μ-loop
+count-semi-join-requires c κs = let o = c .before .operands-at .ensures in (o .inside, o .partner-inside, o .own-column, o .partner-column)
+
+mul-entry : tie.Need-mul-entry Inv-loop μ-loop
+mul-entry c = search needs
+
+add-entry : tie.Need-add-entry Inv-loop μ-loop
+add-entry c = search needs
+
+mul-entry-2 : tie.Need-mul-entry-2 Inv-loop μ-loop
+mul-entry-2 c = search needs
+
+add-entry-2 : tie.Need-add-entry-2 Inv-loop μ-loop
+add-entry-2 c = search needs
+
+-- what the call has counted, of the site as it was
+counted : (c : tie.After-count-semi-join Inv-loop μ-loop)
+    → let l = c .before .before .before .before .before in
+    let a = l .before .before .args in
+    Counted (siteIn (a .count) (a .image .now)) (l .loop .x) (c .count-semi-join .result) (c .before .before .operands-at .result .rows)
+counted c =
+    let l = c .before .before .before .before .before in
+    let o = c .before .before .operands-at .ensures in
+    let same = filled-image (l .before .before .pre .0) (l .loop .inv .5) (l .loop .inv .0) in
+    rw (same .1) at (counted-of (same .0) (l .loop .x) (c .before .before .before .before .loop-test .taken) (rw (o .left) at (c .count-semi-join .ensures)) (o .full))
+
+cast-image : tie.Need-cast-image Inv-loop μ-loop
+cast-image c = omega (arith, counted c)
+
+mul-image : tie.Need-mul-image Inv-loop μ-loop
+mul-image c = search needs
+
+slice-write-image : tie.Need-slice-write-image Inv-loop μ-loop
+slice-write-image c = search needs
+
+is-stored-requires : tie.Need-is-stored-requires Inv-loop μ-loop
+is-stored-requires c κs =
+    let n = counted c in
+    (c .before .before .before .before .before .before .before .pre .1, n .few, n .full-few)
+
+cast-image-2 : tie.Need-cast-image-2 Inv-loop μ-loop
+cast-image-2 c = search needs
+
+add-image : tie.Need-add-image Inv-loop μ-loop
+add-image c = search needs
+
+mul-image-2 : tie.Need-mul-image-2 Inv-loop μ-loop
+mul-image-2 c = search needs
+
+slice-write-image-2 : tie.Need-slice-write-image-2 Inv-loop μ-loop
+slice-write-image-2 c = simp length-set (omega arith)
+
+mul-here : tie.Need-mul-here Inv-loop μ-loop
+mul-here c = omega (arith, counted (c .before .before))
+
+add-here : tie.Need-add-here Inv-loop μ-loop
+add-here c = omega (arith, counted (c .before .before))
+
+add-image-2 : tie.Need-add-image-2 Inv-loop μ-loop
+add-image-2 c = search needs
+
+mul-image-3 : tie.Need-mul-image-3 Inv-loop μ-loop
+mul-image-3 c = search needs
+
+slice-write-image-3 : tie.Need-slice-write-image-3 Inv-loop μ-loop
+slice-write-image-3 c = simp length-set (omega arith)
+
+add-x : tie.Need-add-x Inv-loop μ-loop
+add-x c = search needs
+
+loop-less : tie.Need-loop-less Inv-loop μ-loop
+loop-less c = search needs
+
+loop-again : tie.Need-loop-again Inv-loop μ-loop
+loop-again c =
+    let l = c .before .before .before .before .before .before .before in
+    let s = l .before .before in
+    let inside : l .loop .x < length (semiJoins (siteIn (s .args .count) (s .args .image .now))) =
+    rw (length-all-of (s .pre .0)) (c .before .before .before .before .before .before .loop-test .taken) in
+    let n = counted (c .before .before) in
+    let kept = c .before .is-stored .ensures ∙ counted-kept n (s .args .t) in
+    let same = l .loop .inv .4 in (
+      omega arith,
+      l .loop .inv .1,
+      l .loop .inv .2,
+      l .loop .inv .3,
+      ⊎-elim (λ w. rw (w .1) (simp length-set same)) (λ w. rw (w .1) (simp length-set same)) (c .if1 .came),
+      ⊎-elim
+          (λ w. rw (w .1, w .2) (filled-more (l .loop .inv .5) inside true (sym (w .0 .taken) ∙ kept) _ (n .left) (n .few)))
+          (λ w. rw (w .1, w .2) (filled-more (l .loop .inv .5) inside false (sym (w .0 .left) ∙ kept) _ (n .left) (n .few)))
+          (c .if1 .came),
+    )
+
+same-length : tie.Need-same-length Inv-loop μ-loop
+same-length c = search needs
+
+returns : tie.Need-returns Inv-loop μ-loop
+returns c =
+    let s = c .before .before .before in
+    let all : c .before .loop .x ≡ s .args .count * (s .args .count * 3) = omega arith in
+    let f = c .before .loop .inv .5 in
+    (filled-used (s .pre .0) f all (s .pre .2), filled-written (s .pre .0) f all)
+
+pub fill-entries-spec : {M : Type 1} → statement M
+fill-entries-spec =
+    tie.close
+    (tie.spec
+    Inv-loop
+    μ-loop
+    mul-x-end
+    mul-x-end-2
+    loop-holds
+    operands-at-requires
+    count-semi-join-requires
+    mul-entry
+    add-entry
+    mul-entry-2
+    add-entry-2
+    cast-image
+    mul-image
+    slice-write-image
+    is-stored-requires
+    cast-image-2
+    add-image
+    mul-image-2
+    slice-write-image-2
+    mul-here
+    add-here
+    add-image-2
+    mul-image-3
+    slice-write-image-3
+    add-x
+    loop-less
+    loop-again
+    same-length
+    returns)

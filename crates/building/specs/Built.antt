@@ -1,0 +1,43 @@
+-- An image's site, and the semi-joins of it.
+use Prim.Native.Nat.{ℕ, _+_, _*_, _≤_, _<_}
+use mathlib.Core.Path.{_≡_}
+use mathlib.Core.Bool.{true}
+use mathlib.Core.List.{List, []}
+use lib.ListN.{length, getD, drop}
+use Rattle.model.specs.Site.{Site, isSite}
+use Rattle.model.specs.Tables.{semiJoin, kindCount}
+use Rattle.model.specs.Store.{Reduced, semiJoins, rowsStart, rowsIn, tablesIn}
+use Rattle.tables.specs.Columns.{kindOfColumns}
+use Rattle.building.specs.Image.{imageWords, ImageHolds}
+use Rattle.building.specs.declared.builder.Operands.{Operands}
+
+-- the site whose entries and rows stand in an image
+abbrev pub siteIn : ℕ → List ℕ → Site
+siteIn count image = tablesIn count (drop 3 image) (drop (rowsStart count) image)
+
+-- an image of `count` predicates
+pub record ImageOf (count : ℕ) (image : List ℕ) : Type 0 where
+  pub long : imageWords ≤ length image
+  pub proper : isSite (siteIn count image) ≡ true
+  pub predicates : length (siteIn count image) ≡ count
+  pub holds : ImageHolds (siteIn count image) image
+
+abbrev pub noReduced : Reduced
+noReduced = record { full = []; rows = [] }
+
+abbrev pub reducedAt : Site → ℕ → Reduced
+reducedAt site x = getD (semiJoins site) x noReduced
+
+-- the operands of the x-th semi-join: their tables stand in the image, and give what the semi-join leaves
+pub record OperandsOf (site : Site) (image : List ℕ) (x : ℕ) (r : Operands) : Type 0 where
+  pub inside : r .start + 2 * r .rows ≤ length image
+  pub partner-inside : r .against + 2 * r .partners ≤ length image
+  pub own-column : r .own < 2
+  pub partner-column : r .other < 2
+  pub full : r .rows ≡ length (reducedAt site x .full)
+  pub left : semiJoin (kindOfColumns (r .own) (r .other)) (rowsIn (r .rows) (drop (r .start) image)) (rowsIn (r .partners) (drop (r .against) image))
+      ≡ reducedAt site x .rows
+
+-- the entries of an image have the row counts of the semi-joins
+pub record CountsIn (count : ℕ) (image : List ℕ) : Type 0 where
+  pub counts : (x : ℕ) → x < count * (count * kindCount) → getD image (3 + 3 * count + 2 * x) 0 ≡ length (reducedAt (siteIn count image) x .rows)

@@ -1,0 +1,56 @@
+-- The image of a site: the front of its store, up to where the stored tables' rows begin, in local memory.
+use Prim.Native.Nat.{ℕ, zero, suc, _+_, _*_, _≤_}
+use mathlib.Core.Path.{_≡_}
+use mathlib.Core.List.{List, [], _∷_}
+use lib.ListN.{length, getD, take, drop}
+use Rattle.model.specs.Lists.{sum}
+use Rattle.model.specs.Reader.{Reply, refused, gives}
+use Rattle.model.specs.Site.{Site, mostPredicates, mostRows}
+use Rattle.model.specs.SiteFile.{Declaration}
+use Rattle.model.specs.Store.{rowsStart, vpEntries, vpWords}
+use Rattle.building.specs.declared.site_reader.Taken.{Taken}
+use Rattle.building.specs.declared.site_reader.Taken.the-variants.{At, Refused as TakenRefused}
+use Rattle.building.specs.declared.site_reader.SiteRead.{SiteRead}
+use Rattle.building.specs.declared.site_reader.SiteRead.the-variants.{Predicates, Refused as SiteRefused}
+
+-- enough for every site
+abbrev pub imageWords : ℕ
+imageWords = rowsStart mostPredicates + 2 * mostRows
+
+-- ---- declarations as entries
+
+-- the entries of declared predicates, whose rows begin at `here`
+abbrev pub declaredEntries : ℕ → List Declaration → List ℕ
+declaredEntries here [] = []
+declaredEntries here (d ∷ ds) = d .0 ∷ d .1 ∷ here ∷ declaredEntries (here + 2 * d .1) ds
+
+-- the declarations of k entries
+abbrev pub declaredIn : ℕ → List ℕ → List Declaration
+declaredIn zero entries = []
+declaredIn (suc k) entries = (getD entries 0 0, getD entries 1 0) ∷ declaredIn k (drop 3 entries)
+
+-- how many rows k entries declare
+abbrev pub declaredRows : ℕ → List ℕ → ℕ
+declaredRows k entries = sum (λ d. d .1) (declaredIn k entries)
+
+-- an image has k entries, for rows that fit
+pub record DeclaredIn (k : ℕ) (image : List ℕ) : Type 0 where
+  pub entries : take (3 * k) (drop 3 image) ≡ declaredEntries (rowsStart k) (declaredIn k (drop 3 image))
+  pub few : declaredRows k (drop 3 image) ≤ mostRows
+
+-- ---- what was read
+
+-- a reader's reply as the code has it: how far the bytes s were taken, and what memory holds then, or the refusal
+abbrev pub TakenAs : {A : Type 0} → Reply (A × List ℕ) → (A → Type 0) → List ℕ → Taken → Type 0
+TakenAs (refused n) Held s r = r ≡ TakenRefused n
+TakenAs (gives x) Held s r = (next : ℕ) × (r ≡ At next) × (x .1 ≡ drop next s) × Held (x .0)
+
+-- the entries and the rows of a site stand in an image
+pub record ImageHolds (site : Site) (image : List ℕ) : Type 0 where
+  pub entries : take (3 * length site) (drop 3 image) ≡ vpEntries (rowsStart (length site)) site
+  pub rows : take (length (vpWords site)) (drop (rowsStart (length site)) image) ≡ vpWords site
+
+-- the reply of a site's file as the code has it
+abbrev pub SiteReadAs : Reply Site → List ℕ → SiteRead → Type 0
+SiteReadAs (refused n) image r = r ≡ SiteRefused n
+SiteReadAs (gives site) image r = (r ≡ Predicates (length site)) × ImageHolds site image

@@ -1,0 +1,160 @@
+ghost use mathlib.Core.Path.{_≡_};
+ghost use Prim.Native.Nat.{_<_, _≤_, _+_, _*_};
+ghost use lib.ListN.{length, take};
+ghost use lib.Seq.{sets};
+ghost use Rattle.model.specs.Tables.{kindCount, mostThreshold};
+ghost use Rattle.model.specs.Store.{semiJoins, semiJoinEntries, storedStart, keptWords, layout};
+ghost use Rattle.model.specs.Calls.{outcome, filled, build as buildOutcome};
+ghost use Rattle.building.specs.Built.{siteIn, ImageOf, OperandsOf, CountsIn};
+use crate::semi_joins::KINDS;
+use crate::semi_joins::is_stored;
+use crate::semi_joins::own_column;
+use crate::semi_joins::partner_column;
+use crate::site_reader::IMAGE_WORDS;
+use crate::site_reader::SiteRead;
+use crate::site_reader::read_site;
+use crate::site_reader::rows_start;
+use model::answer::Answer;
+use tables::semi_join_count::count_semi_join;
+use tables::semi_join_write::write_semi_join;
+
+// The greatest threshold.
+const MOST_THRESHOLD: u32 = 1000;
+
+// The two tables of a semi-join in an image, and the columns that are compared.
+pub struct Operands {
+    // Where the rows start, how many they are, and their column.
+    pub start: usize,
+    pub rows: usize,
+    pub own: usize,
+    // The same of the partners.
+    pub against: usize,
+    pub partners: usize,
+    pub other: usize,
+}
+
+// The x-th semi-join of an image of `count` predicates: for each p, each q, each k, in that nesting.
+fn operands_at(image: &[u32], count: usize, x: usize) -> Operands
+    requires { ⌜ ImageOf count (now image) × (x < count * (count * kindCount)) ⌝ }
+    ensures { λ r. ⌜ OperandsOf (siteIn count (now (image .entry))) (now (image .entry)) x r ⌝ }
+{
+    let pair = x / KINDS;
+    let p = 3 + 3 * (pair / count);
+    let q = 3 + 3 * (pair % count);
+    let own = own_column(x % KINDS);
+    let other = partner_column(x % KINDS);
+    Operands {
+        start: image[p + 2] as usize,
+        rows: image[p + 1] as usize,
+        own,
+        against: image[q + 2] as usize,
+        partners: image[q + 1] as usize,
+        other,
+    }
+}
+
+// Where the stored tables' rows begin.
+fn stored_start(image: &[u32], count: usize) -> usize
+    requires { ⌜ ImageOf count (now image) ⌝ }
+    ensures { λ r. ⌜ r ≡ storedStart (siteIn count (now (image .entry))) ⌝ }
+{
+    if count == 0 {
+        return rows_start(0);
+    }
+    let last = 3 * count;
+    let start = image[last + 2] as usize;
+    let rows = image[last + 1] as usize;
+    start + 2 * rows
+}
+
+// The entries of the semi-joins: each row count, and the start of each stored table, the first at `first`. Gives the count of words used.
+fn fill_entries(t: usize, count: usize, image: &mut [u32], first: usize) -> usize
+    requires { ⌜ ImageOf count (now image) × (t ≤ mostThreshold) × (first ≡ storedStart (siteIn count (now image))) ⌝ }
+    ensures { λ r. ⌜ r ≡ length (layout t (siteIn count (now (image .entry)))) ⌝ }
+    ensures { λ _. ⌜ now (image .exit) ≡ sets (now (image .entry)) (3 + 3 * count) (semiJoinEntries t first (semiJoins (siteIn count (now (image .entry))))) ⌝ }
+{
+    let mut here = first;
+    for x in 0..count * (count * KINDS) {
+        let o = operands_at(image, count, x);
+        let rows = o.rows;
+        let kept = count_semi_join(image, o.start, rows, o.own, o.against, o.partners, o.other);
+        let entry = 3 + 3 * count + 2 * x;
+        image[entry] = kept as u32;
+        if is_stored(t, kept, rows) {
+            image[entry + 1] = here as u32;
+            here += 2 * kept;
+        } else {
+            image[entry + 1] = 0;
+        }
+    }
+    here
+}
+
+// The first n words of an image, over the front of the store.
+fn copy_words(image: &[u32], store: &mut [u32], n: usize)
+    requires { ⌜ (n ≤ length (now image)) × (n ≤ length (now store)) ⌝ }
+    ensures { λ _. ⌜ now (store .exit) ≡ sets (now (store .entry)) 0 (take n (now (image .entry))) ⌝ }
+{
+    for i in 0..n {
+        store[i] = image[i];
+    }
+}
+
+// The rows of the stored tables, from `first` on.
+fn write_stored(t: usize, count: usize, image: &[u32], store: &mut [u32], first: usize)
+    requires { ⌜ ImageOf count (now image) × (t ≤ mostThreshold) × CountsIn count (now image) ⌝ }
+    requires { ⌜ first + length (keptWords t (semiJoins (siteIn count (now image)))) ≤ length (now store) ⌝ }
+    ensures { λ _. ⌜ now (store .exit) ≡ sets (now (store .entry)) first (keptWords t (semiJoins (siteIn count (now (image .entry))))) ⌝ }
+{
+    let mut next = first;
+    for x in 0..count * (count * KINDS) {
+        let o = operands_at(image, count, x);
+        let kept = image[3 + 3 * count + 2 * x] as usize;
+        if is_stored(t, kept, o.rows) {
+            next = write_semi_join(
+                image,
+                o.start,
+                o.rows,
+                o.own,
+                o.against,
+                o.partners,
+                o.other,
+                store,
+                next,
+            );
+        }
+    }
+}
+
+// Question 9, and then the words: nothing is written before the count of words used is known.
+fn fill_store(t: u32, count: usize, image: &mut [u32], store: &mut [u32]) -> Answer
+    requires { ⌜ ImageOf count (now image) × (t ≤ mostThreshold) ⌝ }
+    ensures { λ r. ⌜ outcome r (now (store .exit)) ≡ filled t (siteIn count (now (image .entry))) (now (store .entry)) ⌝ }
+{
+    let threshold = t as usize;
+    let first = stored_start(image, count);
+    let used = fill_entries(threshold, count, image, first);
+    if store.len() < used {
+        return Answer::Refused(9);
+    }
+    image[0] = count as u32;
+    image[1] = t;
+    image[2] = used as u32;
+    copy_words(image, store, first);
+    write_stored(threshold, count, image, store, first);
+    Answer::Built(used as u32)
+}
+
+// Builds the store of a site's file at the threshold t.
+pub fn build(t: u32, site: &[u8], store: &mut [u32]) -> Answer
+    ensures { λ r. ⌜ outcome r (now (store .exit)) ≡ buildOutcome t (now (site .entry)) (now (store .entry)) ⌝ }
+{
+    if MOST_THRESHOLD < t {
+        return Answer::Refused(1);
+    }
+    let mut image = [0u32; IMAGE_WORDS];
+    match read_site(site, &mut image) {
+        SiteRead::Refused(number) => Answer::Refused(number),
+        SiteRead::Predicates(count) => fill_store(t, count, &mut image, store),
+    }
+}

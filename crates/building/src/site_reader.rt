@@ -1,0 +1,175 @@
+ghost use mathlib.Core.Path.{_≡_};
+ghost use Prim.Native.Nat.{_<_, _≤_, _+_, _*_};
+ghost use mathlib.Core.List.{[]};
+ghost use lib.ListN.{length, drop};
+ghost use lib.Seq.{sets};
+ghost use Rattle.model.specs.Reader.{repeated, allRead};
+ghost use Rattle.model.specs.Site.{rowBefore, mostPredicates, mostRows};
+ghost use Rattle.model.specs.SiteFile.{declaration, row, tables, readSite};
+ghost use Rattle.model.specs.Store.{rowsStart, tableWords, vpWords};
+ghost use Rattle.building.specs.Image.{imageWords, declaredEntries, declaredIn, declaredRows, TakenAs, DeclaredIn, SiteReadAs};
+use crate::semi_joins::KINDS;
+use tables::number::Number;
+use tables::number::read_number;
+
+// The words of an image: the front of a store, up to where the stored tables' rows would begin, for the largest site.
+pub const IMAGE_WORDS: usize = 3635;
+
+// The greatest term, the most predicates, the most rows of all predicates together.
+pub const MOST_TERM: u32 = 65535;
+
+pub const MOST_PREDICATES: u32 = 16;
+
+pub const MOST_ROWS: u32 = 1024;
+
+// How far bytes were taken, or the refusal's number.
+pub enum Taken {
+    At(usize),
+    Refused(u32),
+}
+
+// The first word after the entries of p predicates.
+pub fn rows_start(p: usize) -> usize
+    requires { ⌜ p ≤ mostPredicates ⌝ }
+    ensures { λ r. ⌜ r ≡ rowsStart p ⌝ }
+{
+    3 + 3 * p + 2 * (p * (p * KINDS))
+}
+
+// The declarations of `count` predicates, as entries from the third word on.
+pub fn read_declarations(s: &[u8], at: usize, count: usize, image: &mut [u32]) -> Taken
+    requires { ⌜ (count ≤ mostPredicates) × (imageWords ≤ length (now image)) ⌝ }
+    ensures { λ r. ⌜ TakenAs (repeated declaration count [] (drop at (now (s .entry)))) (λ ds. now (image .exit) ≡ sets (now (image .entry)) 3 (declaredEntries (rowsStart count) ds)) (now (s .entry)) r ⌝ }
+{
+    let mut next = at;
+    let mut total: u32 = 0;
+    let mut here = rows_start(count);
+    let mut last: u32 = 0;
+    for i in 0..count {
+        let Number::Value(term, middle) = read_number(s, next) else {
+            return Taken::Refused(2);
+        };
+        if MOST_TERM < term {
+            return Taken::Refused(4);
+        }
+        if 0 < i && term <= last {
+            return Taken::Refused(4);
+        }
+        let Number::Value(rows, after) = read_number(s, middle) else {
+            return Taken::Refused(2);
+        };
+        if MOST_ROWS < total + rows {
+            return Taken::Refused(5);
+        }
+        image[3 + 3 * i] = term;
+        image[3 + 3 * i + 1] = rows;
+        image[3 + 3 * i + 2] = here as u32;
+        total += rows;
+        here += 2 * (rows as usize);
+        last = term;
+        next = after;
+    }
+    Taken::At(next)
+}
+
+// The row (s, o) comes before the row (t, p).
+fn row_before(s: u32, o: u32, t: u32, p: u32) -> bool
+    ensures { λ r. ⌜ r ≡ rowBefore (s, o) (t, p) ⌝ }
+{
+    s < t || (s == t && o < p)
+}
+
+// The n rows of a table, as words from `to` on.
+pub fn read_rows(s: &[u8], at: usize, n: usize, image: &mut [u32], to: usize) -> Taken
+    requires { ⌜ to + 2 * n ≤ length (now image) ⌝ }
+    ensures { λ r. ⌜ TakenAs (repeated row n [] (drop at (now (s .entry)))) (λ rs. now (image .exit) ≡ sets (now (image .entry)) to (tableWords rs)) (now (s .entry)) r ⌝ }
+{
+    let mut next = at;
+    let mut last_subject: u32 = 0;
+    let mut last_object: u32 = 0;
+    for i in 0..n {
+        let Number::Value(subject, middle) = read_number(s, next) else {
+            return Taken::Refused(2);
+        };
+        if MOST_TERM < subject {
+            return Taken::Refused(6);
+        }
+        let Number::Value(object, after) = read_number(s, middle) else {
+            return Taken::Refused(2);
+        };
+        if MOST_TERM < object {
+            return Taken::Refused(6);
+        }
+        if 0 < i && !row_before(last_subject, last_object, subject, object) {
+            return Taken::Refused(7);
+        }
+        image[to + 2 * i] = subject;
+        image[to + 2 * i + 1] = object;
+        last_subject = subject;
+        last_object = object;
+        next = after;
+    }
+    Taken::At(next)
+}
+
+// The rows of the declared predicates, one table behind the other.
+pub fn read_tables(s: &[u8], at: usize, count: usize, image: &mut [u32]) -> Taken
+    requires { ⌜ (count ≤ mostPredicates) × (imageWords ≤ length (now image)) × (declaredRows count (drop 3 (now image)) ≤ mostRows) ⌝ }
+    ensures { λ r. ⌜ TakenAs (tables (declaredIn count (drop 3 (now (image .entry)))) [] (drop at (now (s .entry)))) (λ site. now (image .exit) ≡ sets (now (image .entry)) (rowsStart count) (vpWords site)) (now (s .entry)) r ⌝ }
+{
+    let mut next = at;
+    let mut to = rows_start(count);
+    for i in 0..count {
+        let n = image[3 + 3 * i + 1] as usize;
+        match read_rows(s, next, n, image, to) {
+            Taken::Refused(number) => {
+                return Taken::Refused(number);
+            }
+            Taken::At(after) => {
+                next = after;
+            }
+        }
+        to += 2 * n;
+    }
+    Taken::At(next)
+}
+
+// Of a whole file: the count of its predicates, or the refusal's number.
+pub enum SiteRead {
+    Predicates(usize),
+    Refused(u32),
+}
+
+// Questions 2 to 8. The site's entries and rows stand in the image.
+pub fn read_site(s: &[u8], image: &mut [u32]) -> SiteRead
+    requires { ⌜ imageWords ≤ length (now image) ⌝ }
+    ensures { λ r. ⌜ SiteReadAs (readSite (now (s .entry))) (now (image .exit)) r ⌝ }
+{
+    let Number::Value(p, at) = read_number(s, 0) else {
+        return SiteRead::Refused(2);
+    };
+    if MOST_PREDICATES < p {
+        return SiteRead::Refused(3);
+    }
+    let count = p as usize;
+    match read_declarations(s, at, count, image) {
+        Taken::Refused(number) => SiteRead::Refused(number),
+        Taken::At(next) => read_rest(s, next, count, image),
+    }
+}
+
+// The tables of a site, and the file's end.
+fn read_rest(s: &[u8], at: usize, count: usize, image: &mut [u32]) -> SiteRead
+    requires { ⌜ (count ≤ mostPredicates) × (imageWords ≤ length (now image)) × DeclaredIn count (now image) ⌝ }
+    ensures { λ r. ⌜ SiteReadAs (allRead 8 (tables (declaredIn count (drop 3 (now (image .entry)))) [] (drop at (now (s .entry))))) (now (image .exit)) r ⌝ }
+{
+    match read_tables(s, at, count, image) {
+        Taken::Refused(number) => SiteRead::Refused(number),
+        Taken::At(end) => {
+            if end < s.len() {
+                return SiteRead::Refused(8);
+            }
+            SiteRead::Predicates(count)
+        }
+    }
+}
