@@ -181,6 +181,13 @@ def cases():
     yield 1000, site_file([(p, []) for p in range(17)]), 2000
     yield 1000, site_file([(1, [(s, o) for s in range(3) for o in range(3)])]), 64
     yield 1000, site_file([(1, [(1, 2), (2, 1)]), (2, [(1, 2)])]), 64
+    # the largest sites: 1,024 rows of one predicate, and 64 of each of sixteen; with one word too few, and, where little is stored, whole
+    lone = [(9, [(s, o) for s in range(64) for o in range(s, s + 16)])]
+    wide = [(p, [(s, (7 * s + p) % 128) for s in range(p, p + 64)]) for p in range(16)]
+    for threshold, site in ((1000, lone), (1000, wide), (0, lone), (0, wide)):
+        yield threshold, site_file(site), len(layout(threshold, site)) - 1
+    yield 0, site_file(lone), len(layout(0, lone))
+    yield 0, site_file(wide), len(layout(0, wide)) + 1
     # numbers that are not whole or not in shortest form, at each kind of place
     for bad in (b'', b'\x80', b'\x81', b'\x80\x00', b'\x81\x00', b'\x80\x80', b'\x80\x80\x00', b'\x81\x80\x00', b'\x80\x80\x80',
                 b'\x80\x80\x80\x01', b'\xff\xff\xff\x7f'):

@@ -7,7 +7,7 @@ const MOST_CASES: usize = 1000;
 
 const CASE_BYTES: usize = 32768;
 
-const LENT_WORDS: usize = 2048;
+const LENT_WORDS: usize = 65536;
 
 fn wide(x: u8) -> usize
     ensures { λ r. ⌜ r < 256 ⌝ }
