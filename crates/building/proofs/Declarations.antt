@@ -17,8 +17,9 @@ use Rattle.model.proofs.SiteFile.{sum-map, all-tables-read}
 use Rattle.model.proofs.StoreLayout.{length-all}
 use Rattle.model.proofs.Blocks.{Block, drop-block}
 use Rattle.tables.proofs.Setting.{part-sets, sets-block}
+use Rattle.tables.specs.SiteWords.{ImageHolds}
 use Rattle.tables.specs.NumberAt.{numberAt}
-use Rattle.building.specs.Image.{imageWords, declaredEntries, declaredIn, declaredRows, TakenAs, DeclaredIn, ImageHolds, SiteReadAs}
+use Rattle.building.specs.Image.{imageWords, declaredEntries, declaredIn, declaredRows, TakenAs, DeclaredIn, SiteReadAs}
 use Rattle.tables.specs.declared.number.Number.the-variants.{Value}
 use Rattle.building.specs.declared.site_reader.Taken.{Taken}
 use Rattle.building.specs.declared.site_reader.Taken.the-variants.{At, Refused}

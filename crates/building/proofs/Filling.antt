@@ -14,9 +14,9 @@ use Rattle.model.specs.Tables.{kindCount}
 use Rattle.model.specs.Store.{Reduced, semiJoins, isKept, kept, tableWords, semiJoinEntries, storedStart, keptWords, layout}
 use Rattle.model.proofs.Blocks.{element-block, getD-block, head-block, each-append}
 use Rattle.model.proofs.StoreLayout.{length-table, length-all, entries-append, length-entries, entry-block, semiJoinEntry, semi-join-entries, length-semi-joins, layout-used}
-use Rattle.building.specs.Built.{siteIn, ImageOf, noReduced, reducedAt, CountsIn}
+use Rattle.tables.specs.SiteWords.{siteIn, ImageOf, noReduced, reducedAt, CountsIn}
 use Rattle.tables.proofs.Setting.{sets-append, sets-two, getD-sets, sets-block}
-use Rattle.building.proofs.Images.{image-kept, few-predicates, few-semi-joins}
+use Rattle.tables.proofs.Images.{image-kept, few-predicates, few-semi-joins, entries-inside}
 
 -- ---- one semi-join more
 
@@ -131,6 +131,7 @@ module _ {count : ℕ} {image₀ : List ℕ} (o : ImageOf count image₀) where
         let n = length-entered in
         let few = few-predicates o in
         let fewer = few-semi-joins few in
+        let inside = entries-inside o in
         let entry = entry-block (kept t) (semiJoinEntry t) 2 (λ here r. refl) first (element-block noReduced all x (rw length-all-of h)) in
         getD-block (sets-block image₀ (3 + 3 * count) es (omega arith)) (2 * x) 0 (omega arith)
         ∙ rw (semi-join-entries t first all) (head-block entry 0)

@@ -13,11 +13,10 @@ use Rattle.model.specs.Store.{Reduced, semiJoins, isKept, kept, rowsStart, vpEn
 use Rattle.model.specs.Calls.{over}
 use Rattle.model.proofs.Blocks.{Block, block-at, drop-block, take-block, getD-block}
 use Rattle.model.proofs.StoreLayout.{length-table, length-vp-entries, length-semi-join-entries, front, length-before-kept, layout-used}
-use Rattle.building.specs.Image.{ImageHolds}
-use Rattle.building.specs.Built.{siteIn, ImageOf, noReduced, CountsIn}
+use Rattle.tables.specs.SiteWords.{siteIn, ImageHolds, ImageOf, noReduced, CountsIn}
 use Rattle.tables.proofs.Setting.{sets-append, drop-sets, sets-block, part-block}
-use Rattle.building.proofs.Images.{few-predicates, few-semi-joins, stored-start-inside}
-use Rattle.building.proofs.Entries.{counted-of}
+use Rattle.tables.proofs.Images.{few-predicates, few-semi-joins, stored-start-limit, entries-inside}
+use Rattle.tables.proofs.Entries.{counted-of}
 use Rattle.building.proofs.Filling.{length-all-of, image-fronted, counts-fronted}
 
 -- ---- where it ends
@@ -73,7 +72,7 @@ used-limit {count} {image} o t =
     let site = siteIn count image in
     let few = few-semi-joins (few-predicates o) in
     let most = kept-limit t (semiJoins site) (λ x h. counted-of o x (rw (length-all-of o) at h) refl refl .few) in
-    rw length-layout (omega (arith, stored-start-inside o, length-all-of o))
+    rw length-layout (omega (arith, stored-start-limit _ (o .proper), length-all-of o))
 
 -- ---- the image with all words of the front
 
@@ -100,9 +99,6 @@ front-words t site {image} first entries joins rows =
     let length-both = length-append vp (semiJoinEntries t (storedStart site) (semiJoins site)) in
     let behind = joined-block (joined-block entries (block-at (omega arith) joins)) (block-at (omega arith) rows) in
     ap (λ (n : ℕ). take n image) (sym (length-before-kept t site)) ∙ take-block (joined-block (rw (length-layout t site) at first) behind)
-
-rows-inside : {count : ℕ} {image : List ℕ} → ImageOf count image → rowsStart count ≤ length image
-rows-inside o = let few = few-predicates o in omega (arith, few-semi-joins few)
 
 -- an image of the site, with all words before the stored tables' rows
 pub record FrontIn (t count : ℕ) (site : Site) (image : List ℕ) : Type 0 where
@@ -132,19 +128,19 @@ module _ (t : ℕ) {count : ℕ} {image : List ℕ} (o : ImageOf count image) wh
   fronted-image = image-fronted o t (storedStart site) first (omega arith)
 
   first-block : Block fronted 0 first
-  first-block = sets-block entered 0 first (omega (arith, rows-inside o, length-sets image (3 + 3 * count) joins))
+  first-block = sets-block entered 0 first (omega (arith, entries-inside o, length-sets image (3 + 3 * count) joins))
 
   joins-block : Block fronted (3 + 3 * count) joins
   joins-block =
       let long = length-semi-join-entries t (storedStart site) site ∙ ap (λ (k : ℕ). 2 * (k * (k * kindCount))) (o .predicates) in
-      part-block fronted (3 + 3 * count) (length joins) (omega (arith, rows-inside (fronted-image .0)))
+      part-block fronted (3 + 3 * count) (length joins) (omega (arith, entries-inside (fronted-image .0)))
       (ap (take (length joins)) (drop-sets entered 0 first (3 + 3 * count) (omega arith))
-      ∙ take-block (sets-block image (3 + 3 * count) joins (omega (arith, rows-inside o))))
+      ∙ take-block (sets-block image (3 + 3 * count) joins (omega (arith, entries-inside o))))
 
   fronted-words : take (storedStart site) fronted ≡ front t site ++ vpWords site
   fronted-words =
       let p : length site ≡ count = o .predicates in
-      let inside : rowsStart (length site) ≤ length fronted = subst (λ (k : ℕ). rowsStart k ≤ length fronted) (sym p) (rows-inside (fronted-image .0)) in
+      let inside : rowsStart (length site) ≤ length fronted = subst (λ (k : ℕ). rowsStart k ≤ length fronted) (sym p) (entries-inside (fronted-image .0)) in
       let held : ImageHolds site fronted = subst (λ (s : Site). ImageHolds s fronted) (fronted-image .1) (fronted-image .0 .holds) in
       front-words t site
       (subst (λ (k : ℕ). Block fronted 0 (k ∷ t ∷ length (layout t site) ∷ [])) (sym p) first-block)

@@ -2,8 +2,6 @@
 pub mod Reading
 pub mod Writing
 pub mod Declarations
-pub mod Images
-pub mod Entries
 pub mod Filling
 pub mod Front
 pub mod Replies

@@ -2,7 +2,7 @@
 use Prim.Native.Nat.{ℕ, suc, _+_, _-_, _*_, _<_, _≤_}
 use native.Mathlib.Omega.{arith}
 use mathlib.Core.Path.{_≡_, refl, sym, ap, _∙_}
-use mathlib.Core.Bool.{Bool, true, false, _&&_}
+use mathlib.Core.Bool.{true, false, _&&_}
 use mathlib.Core.Option.{Option, none, some}
 use mathlib.Core.List.{List, [], _∷_, _++_, map}
 use lib.ListN.{length, getD, drop, length-append}
@@ -166,18 +166,6 @@ declarations-good n bytes {ds} e =
     let r = repeated-read declaration-reads declared-grow n bytes e in
     let terms = map (λ d. d .0) ds in
     (r .0, leb-true _ _ (and-cases (all isTerm terms && ascends ltb terms) _ (r .1) .1))
-
--- ---- the last of those done
-
-module _ {A : Type 0} (before : A → A → Bool) where
-  pub above-none : (done : List A) (x : A) → length done ≡ 0 → aboveLast before done x ≡ true
-  above-none [] x e = refl
-  above-none (y ∷ ys) x e = absurd (omega arith)
-
-  pub above-snoc : (done : List A) (y x : A) → aboveLast before (done ++ y ∷ []) x ≡ before y x
-  above-snoc [] y x = refl
-  above-snoc (z ∷ []) y x = refl
-  above-snoc (z ∷ w ∷ ws) y x = above-snoc (w ∷ ws) y x
 
 -- ---- the tables of the entries in an image
 

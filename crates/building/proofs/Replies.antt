@@ -13,11 +13,11 @@ use Rattle.model.specs.Store.{layout}
 use Rattle.model.specs.Calls.{outcome, over, either, unaltered, filled, build}
 use Rattle.model.specs.declared.answer.Answer.the-variants.{Built}
 use Rattle.model.proofs.SiteFile.{site-file}
-use Rattle.building.specs.Image.{imageWords, ImageHolds, SiteReadAs}
-use Rattle.building.specs.Built.{siteIn, ImageOf}
+use Rattle.building.specs.Image.{imageWords, SiteReadAs}
+use Rattle.tables.specs.SiteWords.{siteIn, ImageHolds, ImageOf}
 use Rattle.building.specs.declared.site_reader.SiteRead.{SiteRead}
 use Rattle.building.specs.declared.site_reader.SiteRead.the-variants.{Predicates, Refused}
-use Rattle.building.proofs.Images.{image-of}
+use Rattle.tables.proofs.Images.{image-of, stored-start-limit}
 
 pub site-refused : (reply : Reply Site) (image : List ℕ) {r : SiteRead} {n : ℕ} → SiteReadAs reply image r → r ≡ Refused n → reply ≡ refused n
 site-refused (refused m) image h e = cc
@@ -33,7 +33,8 @@ pub site-read : (bytes image : List ℕ) {r : SiteRead} {count : ℕ} → imageW
     → ImageOf count image × (readSite bytes ≡ gives (siteIn count image))
 site-read bytes image {count = count} long h e =
     let (site, given, few, held) = site-given (readSite bytes) image h e in
-    let (o, same) = image-of site image (site-file .0 bytes site given) long held in
+    let yes-site = site-file .0 bytes site given in
+    let (o, same) = image-of site image yes-site (omega (arith, stored-start-limit site yes-site)) held in
     subst (λ (k : ℕ). ImageOf k image × (readSite bytes ≡ gives (siteIn k image))) few (o, rw same given)
 
 module _ (t : ℕ) (memory : List ℕ) where

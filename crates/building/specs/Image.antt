@@ -7,7 +7,8 @@ use Rattle.model.specs.Lists.{sum}
 use Rattle.model.specs.Reader.{Reply, refused, gives}
 use Rattle.model.specs.Site.{Site, mostPredicates, mostRows}
 use Rattle.model.specs.SiteFile.{Declaration}
-use Rattle.model.specs.Store.{rowsStart, vpEntries, vpWords}
+use Rattle.model.specs.Store.{rowsStart}
+use Rattle.tables.specs.SiteWords.{ImageHolds}
 use Rattle.building.specs.declared.site_reader.Taken.{Taken}
 use Rattle.building.specs.declared.site_reader.Taken.the-variants.{At, Refused as TakenRefused}
 use Rattle.building.specs.declared.site_reader.SiteRead.{SiteRead}
@@ -44,11 +45,6 @@ pub record DeclaredIn (k : ℕ) (image : List ℕ) : Type 0 where
 abbrev pub TakenAs : {A : Type 0} → Reply (A × List ℕ) → (A → Type 0) → List ℕ → Taken → Type 0
 TakenAs (refused n) Held s r = r ≡ TakenRefused n
 TakenAs (gives x) Held s r = (next : ℕ) × (r ≡ At next) × (x .1 ≡ drop next s) × Held (x .0)
-
--- the entries and the rows of a site stand in an image
-pub record ImageHolds (site : Site) (image : List ℕ) : Type 0 where
-  pub entries : take (3 * length site) (drop 3 image) ≡ vpEntries (rowsStart (length site)) site
-  pub rows : take (length (vpWords site)) (drop (rowsStart (length site)) image) ≡ vpWords site
 
 -- the reply of a site's file as the code has it
 abbrev pub SiteReadAs : Reply Site → List ℕ → SiteRead → Type 0

@@ -5,53 +5,20 @@ ghost use lib.Seq.{sets};
 ghost use Rattle.model.specs.Tables.{kindCount, mostThreshold};
 ghost use Rattle.model.specs.Store.{semiJoins, semiJoinEntries, storedStart, keptWords, layout};
 ghost use Rattle.model.specs.Calls.{outcome, filled, build as buildOutcome};
-ghost use Rattle.building.specs.Built.{siteIn, ImageOf, OperandsOf, CountsIn};
-use crate::semi_joins::KINDS;
-use crate::semi_joins::is_stored;
-use crate::semi_joins::own_column;
-use crate::semi_joins::partner_column;
+ghost use Rattle.tables.specs.SiteWords.{siteIn, ImageOf, CountsIn};
 use crate::site_reader::IMAGE_WORDS;
 use crate::site_reader::SiteRead;
 use crate::site_reader::read_site;
-use crate::site_reader::rows_start;
 use model::answer::Answer;
+use tables::kinds::KINDS;
+use tables::kinds::is_stored;
+use tables::operands::operands_at;
+use tables::operands::rows_start;
 use tables::semi_join_count::count_semi_join;
 use tables::semi_join_write::write_semi_join;
 
 // The greatest threshold.
 const MOST_THRESHOLD: u32 = 1000;
-
-// The two tables of a semi-join in an image, and the columns that are compared.
-pub struct Operands {
-    // Where the rows start, how many they are, and their column.
-    pub start: usize,
-    pub rows: usize,
-    pub own: usize,
-    // The same of the partners.
-    pub against: usize,
-    pub partners: usize,
-    pub other: usize,
-}
-
-// The x-th semi-join of an image of `count` predicates: for each p, each q, each k, in that nesting.
-fn operands_at(image: &[u32], count: usize, x: usize) -> Operands
-    requires { ⌜ ImageOf count (now image) × (x < count * (count * kindCount)) ⌝ }
-    ensures { λ r. ⌜ OperandsOf (siteIn count (now (image .entry))) (now (image .entry)) x r ⌝ }
-{
-    let pair = x / KINDS;
-    let p = 3 + 3 * (pair / count);
-    let q = 3 + 3 * (pair % count);
-    let own = own_column(x % KINDS);
-    let other = partner_column(x % KINDS);
-    Operands {
-        start: image[p + 2] as usize,
-        rows: image[p + 1] as usize,
-        own,
-        against: image[q + 2] as usize,
-        partners: image[q + 1] as usize,
-        other,
-    }
-}
 
 // Where the stored tables' rows begin.
 fn stored_start(image: &[u32], count: usize) -> usize

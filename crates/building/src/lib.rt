@@ -1,4 +1,3 @@
 // From a site's bytes to the words of its store.
 pub mod builder;
-pub mod semi_joins;
 pub mod site_reader;

@@ -4,20 +4,20 @@ ghost use mathlib.Core.List.{[]};
 ghost use lib.ListN.{length, drop};
 ghost use lib.Seq.{sets};
 ghost use Rattle.model.specs.Reader.{repeated, allRead};
-ghost use Rattle.model.specs.Site.{rowBefore, mostPredicates, mostRows};
+ghost use Rattle.model.specs.Site.{mostPredicates, mostRows};
 ghost use Rattle.model.specs.SiteFile.{declaration, row, tables, readSite};
 ghost use Rattle.model.specs.Store.{rowsStart, tableWords, vpWords};
 ghost use Rattle.building.specs.Image.{imageWords, declaredEntries, declaredIn, declaredRows, TakenAs, DeclaredIn, SiteReadAs};
-use crate::semi_joins::KINDS;
 use tables::number::Number;
 use tables::number::read_number;
+use tables::operands::rows_start;
+use tables::row_order::MOST_TERM;
+use tables::row_order::row_before;
 
 // The words of an image: the front of a store, up to where the stored tables' rows would begin, for the largest site.
 pub const IMAGE_WORDS: usize = 3635;
 
-// The greatest term, the most predicates, the most rows of all predicates together.
-pub const MOST_TERM: u32 = 65535;
-
+// The most predicates, the most rows of all predicates together.
 pub const MOST_PREDICATES: u32 = 16;
 
 pub const MOST_ROWS: u32 = 1024;
@@ -26,14 +26,6 @@ pub const MOST_ROWS: u32 = 1024;
 pub enum Taken {
     At(usize),
     Refused(u32),
-}
-
-// The first word after the entries of p predicates.
-pub fn rows_start(p: usize) -> usize
-    requires { ⌜ p ≤ mostPredicates ⌝ }
-    ensures { λ r. ⌜ r ≡ rowsStart p ⌝ }
-{
-    3 + 3 * p + 2 * (p * (p * KINDS))
 }
 
 // The declarations of `count` predicates, as entries from the third word on.
@@ -70,13 +62,6 @@ pub fn read_declarations(s: &[u8], at: usize, count: usize, image: &mut [u32]) -
         next = after;
     }
     Taken::At(next)
-}
-
-// The row (s, o) comes before the row (t, p).
-fn row_before(s: u32, o: u32, t: u32, p: u32) -> bool
-    ensures { λ r. ⌜ r ≡ rowBefore (s, o) (t, p) ⌝ }
-{
-    s < t || (s == t && o < p)
 }
 
 // The n rows of a table, as words from `to` on.

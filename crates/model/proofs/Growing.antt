@@ -4,6 +4,7 @@ use native.Mathlib.Omega.{arith}
 use mathlib.Core.Path.{_≡_, refl, sym, _∙_}
 use mathlib.Core.Bool.{Bool, true, false, _&&_, and-true}
 use mathlib.Core.List.{List, [], _∷_, _++_, map, map-append, append-nil}
+use lib.ListN.{length}
 use lib.Seq.{append-snoc}
 use lib.Dec.{leb, leb·zero}
 use borrow.Author.Tests.{leb-true, le-leb}
@@ -71,3 +72,15 @@ module _ {A : Type 0} (f : A → ℕ) where
           bool-ext (leb (a + b) most) (leb a most && leb (a + b) most)
           (λ h. let k = leb-true (a + b) most h in and-make (le-leb a most (omega arith)) h)
           (λ h. and-cases (leb a most) (leb (a + b) most) h .1)
+
+-- ---- an element after the last of those done
+
+module _ {A : Type 0} (before : A → A → Bool) where
+  pub above-none : (done : List A) (x : A) → length done ≡ 0 → aboveLast before done x ≡ true
+  above-none [] x e = refl
+  above-none (y ∷ ys) x e = absurd (omega arith)
+
+  pub above-snoc : (done : List A) (y x : A) → aboveLast before (done ++ y ∷ []) x ≡ before y x
+  above-snoc [] y x = refl
+  above-snoc (z ∷ []) y x = refl
+  above-snoc (z ∷ w ∷ ws) y x = above-snoc (w ∷ ws) y x

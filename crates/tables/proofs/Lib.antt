@@ -2,3 +2,5 @@ pub mod Groups
 pub mod Setting
 pub mod Rows
 pub mod Partners
+pub mod Images
+pub mod Entries

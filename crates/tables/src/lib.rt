@@ -1,4 +1,7 @@
-// Numbers in bytes, and semi-joins over rows in words.
+// Numbers in bytes, and rows and semi-joins in words.
+pub mod kinds;
 pub mod number;
+pub mod operands;
+pub mod row_order;
 pub mod semi_join_count;
 pub mod semi_join_write;

@@ -4,7 +4,7 @@ use mathlib.Core.Path.{_≡_, sym, _∙_}
 use Rattle.model.specs.Reader.{gives}
 use Rattle.model.specs.SiteFile.{readSite}
 use borrow.Author.Needs.{needs}
-use Rattle.building.specs.Built.{siteIn, ImageOf}
+use Rattle.tables.specs.SiteWords.{siteIn, ImageOf}
 use Rattle.building.proofs.Replies.{site-refused, site-read, threshold-refused, file-refused, file-given}
 use Rattle.building.proofs.builder.build.Statement.{statement}
 use Rattle.building.proofs.builder.build.Tie as tie

@@ -9,9 +9,9 @@ use borrow.Author.Needs.{needs}
 use Rattle.model.specs.Site.{mostPredicates}
 use Rattle.model.specs.Store.{semiJoins}
 use Rattle.building.specs.Image.{imageWords}
-use Rattle.building.specs.Built.{siteIn}
-use Rattle.building.proofs.Images.{mostSemiJoins, few-predicates, few-semi-joins, stored-start-inside}
-use Rattle.building.proofs.Entries.{Counted, counted-kept, counted-of}
+use Rattle.tables.specs.SiteWords.{siteIn}
+use Rattle.tables.proofs.Images.{mostSemiJoins, few-predicates, few-semi-joins, stored-start-limit, entries-inside}
+use Rattle.tables.proofs.Entries.{Counted, counted-kept, counted-of}
 use Rattle.building.proofs.Filling.{Filled, filled-none, filled-more, length-all-of, filled-image, filled-written, filled-used}
 use Rattle.building.proofs.builder.fill_entries.Statement.{statement}
 use Rattle.building.proofs.builder.fill_entries.Tie as tie
@@ -35,7 +35,7 @@ loop-holds c =
     let a = c .before .args in
     let o = c .before .pre .0 in
     let few = few-predicates o in
-    (omega arith, few, few-semi-joins few, rw (c .before .pre .2) (stored-start-inside o), refl, filled-none (a .t) (3 + 3 * a .count) (a .first) _ (a .image .now))
+    (omega arith, few, few-semi-joins few, rw (c .before .pre .2) (stored-start-limit _ (o .proper)), refl, filled-none (a .t) (3 + 3 * a .count) (a .first) _ (a .image .now))
 
 operands-at-requires : tie.Need-operands-at-requires Inv-loop μ-loop
 operands-at-requires c κs =
@@ -75,7 +75,7 @@ mul-image : tie.Need-mul-image Inv-loop μ-loop
 mul-image c = search needs
 
 slice-write-image : tie.Need-slice-write-image Inv-loop μ-loop
-slice-write-image c = search needs
+slice-write-image c = omega (arith, entries-inside (c .before .before .before .before .before .before .before .pre .0))
 
 is-stored-requires : tie.Need-is-stored-requires Inv-loop μ-loop
 is-stored-requires c κs =
@@ -92,7 +92,7 @@ mul-image-2 : tie.Need-mul-image-2 Inv-loop μ-loop
 mul-image-2 c = search needs
 
 slice-write-image-2 : tie.Need-slice-write-image-2 Inv-loop μ-loop
-slice-write-image-2 c = simp length-set (omega arith)
+slice-write-image-2 c = simp length-set (omega (arith, entries-inside (c .before .before .before .before .before .before .before .before .before .pre .0)))
 
 mul-here : tie.Need-mul-here Inv-loop μ-loop
 mul-here c = omega (arith, counted (c .before .before))
@@ -107,7 +107,7 @@ mul-image-3 : tie.Need-mul-image-3 Inv-loop μ-loop
 mul-image-3 c = search needs
 
 slice-write-image-3 : tie.Need-slice-write-image-3 Inv-loop μ-loop
-slice-write-image-3 c = simp length-set (omega arith)
+slice-write-image-3 c = simp length-set (omega (arith, entries-inside (c .before .before .before .before .before .before .before .before .before .pre .0)))
 
 add-x : tie.Need-add-x Inv-loop μ-loop
 add-x c = search needs

@@ -8,8 +8,8 @@ use lib.Seq.{sets}
 use Rattle.model.specs.Store.{layout}
 use Rattle.model.specs.Calls.{over}
 use borrow.Author.Needs.{needs}
-use Rattle.building.specs.Built.{siteIn}
-use Rattle.building.proofs.Images.{few-predicates, stored-start-inside}
+use Rattle.tables.specs.SiteWords.{siteIn}
+use Rattle.tables.proofs.Images.{few-predicates, stored-start-limit}
 use Rattle.building.proofs.Front.{FrontIn, front-in, used-limit, length-layout, store-over}
 use Rattle.building.proofs.Replies.{memory-refused, memory-filled}
 use Rattle.building.proofs.builder.fill_store.Statement.{statement}
@@ -59,7 +59,7 @@ copy-words-requires : tie.Need-copy-words-requires
 copy-words-requires c κs =
     let start = c .before .before .before .before .before .before .before .before .before .before .before in
     let site = siteIn (start .args .count) (start .args .image .now) in
-    (simp length-set (omega (arith, stored-start-inside (start .pre .0))), omega (arith, length-layout (start .args .t) site))
+    (simp length-set (omega (arith, stored-start-limit _ (start .pre .0 .proper))), omega (arith, length-layout (start .args .t) site))
 
 write-stored-requires : tie.Need-write-stored-requires
 write-stored-requires c κs =

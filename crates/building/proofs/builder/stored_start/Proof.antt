@@ -3,7 +3,7 @@ use Prim.Native.Nat.{_+_, _*_}
 use native.Mathlib.Omega.{arith}
 use Rattle.model.specs.Store.{tablesIn}
 use borrow.Author.Needs.{needs}
-use Rattle.building.proofs.Images.{few-predicates}
+use Rattle.tables.proofs.Images.{few-predicates}
 use Rattle.building.proofs.Front.{last-entry}
 use Rattle.building.proofs.builder.stored_start.Statement.{statement}
 use Rattle.building.proofs.builder.stored_start.Tie as tie

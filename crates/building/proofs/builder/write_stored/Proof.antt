@@ -10,9 +10,9 @@ use mir.Facts.{fits-widen}
 use borrow.Author.Needs.{needs}
 use Rattle.model.specs.Site.{mostPredicates}
 use Rattle.model.specs.Store.{isKept, semiJoins}
-use Rattle.building.specs.Built.{siteIn, reducedAt}
-use Rattle.building.proofs.Images.{mostSemiJoins, few-predicates, few-semi-joins}
-use Rattle.building.proofs.Entries.{Counted, counted-kept, counted-of}
+use Rattle.tables.specs.SiteWords.{siteIn, reducedAt}
+use Rattle.tables.proofs.Images.{mostSemiJoins, few-predicates, few-semi-joins, entries-inside}
+use Rattle.tables.proofs.Entries.{Counted, counted-kept, counted-of}
 use Rattle.building.proofs.Filling.{Stored, stored-none, stored-more, stored-room, stored-all, length-all-of}
 use Rattle.building.proofs.builder.write_stored.Statement.{statement}
 use Rattle.building.proofs.builder.write_stored.Tie as tie
@@ -55,7 +55,7 @@ mul-kept-3 : tie.Need-mul-kept-3 Inv-loop μ-loop
 mul-kept-3 c = search needs
 
 shared-slice-read-kept : tie.Need-shared-slice-read-kept Inv-loop μ-loop
-shared-slice-read-kept c = search needs
+shared-slice-read-kept c = omega (arith, entries-inside (c .before .before .before .before .before .before .pre .0 .0))
 
 cast-kept : tie.Need-cast-kept Inv-loop μ-loop
 cast-kept c = fits-widen tt (c .shared-slice-known2 .given _)

@@ -14,9 +14,10 @@ use Rattle.model.specs.Reader.{refused, repeated}
 use Rattle.model.specs.Site.{Row, rowBefore}
 use Rattle.model.specs.SiteFile.{row}
 use Rattle.model.specs.Store.{tableWords}
+use Rattle.model.proofs.Growing.{above-none, above-snoc}
 use Rattle.tables.specs.NumberAt.{numberAt}
 use Rattle.tables.specs.declared.number.Number.the-variants.{Value}
-use Rattle.building.proofs.Reading.{PartRead, none-read, all-read, next-refused, next-read, no-subject, wide-subject, no-object, wide-object, row-below, row-given, above-none, above-snoc}
+use Rattle.building.proofs.Reading.{PartRead, none-read, all-read, next-refused, next-read, no-subject, wide-subject, no-object, wide-object, row-below, row-given}
 use Rattle.tables.proofs.Rows.{row-written}
 use Rattle.building.proofs.site_reader.read_rows.Statement.{statement}
 use Rattle.building.proofs.site_reader.read_rows.Tie as tie

@@ -3,8 +3,8 @@ use Prim.Native.Nat.{ℕ, zero, suc}
 use mathlib.Core.Path.{_≡_, refl}
 use borrow.Author.Needs.{needs}
 use Rattle.model.specs.Tables.{subject, kindAt}
-use Rattle.building.proofs.semi_joins.partner_column.Statement.{statement}
-use Rattle.building.proofs.semi_joins.partner_column.Tie as tie
+use Rattle.tables.proofs.kinds.partner_column.Statement.{statement}
+use Rattle.tables.proofs.kinds.partner_column.Tie as tie
 
 partner-subject : (k : ℕ) → (k ≡ 2 → ⊥) → subject ≡ kindAt k .1
 partner-subject zero other = refl

@@ -6,8 +6,8 @@ use mathlib.Core.Path.{refl}
 use borrow.Author.Needs.{needs}
 use borrow.Author.Tests.{lt-ltb, le-ltb}
 use Rattle.model.specs.Tables.{isStored}
-use Rattle.building.proofs.semi_joins.is_stored.Statement.{statement}
-use Rattle.building.proofs.semi_joins.is_stored.Tie as tie
+use Rattle.tables.proofs.kinds.is_stored.Statement.{statement}
+use Rattle.tables.proofs.kinds.is_stored.Tie as tie
 
 mul-share : tie.Need-mul-share
 mul-share c = search needs

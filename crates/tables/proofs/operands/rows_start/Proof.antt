@@ -2,8 +2,8 @@
 use native.Mathlib.Nat.{mul-le-mul}
 use native.Mathlib.Omega.{arith}
 use borrow.Author.Needs.{needs}
-use Rattle.building.proofs.site_reader.rows_start.Statement.{statement}
-use Rattle.building.proofs.site_reader.rows_start.Tie as tie
+use Rattle.tables.proofs.operands.rows_start.Statement.{statement}
+use Rattle.tables.proofs.operands.rows_start.Tie as tie
 
 mul-result : tie.Need-mul-result
 mul-result c = search needs

@@ -13,9 +13,9 @@ use Rattle.model.specs.Store.{Reduced, isKept}
 use Rattle.model.proofs.Partition.{proper}
 use Rattle.model.proofs.Blocks.{head-block}
 use Rattle.model.proofs.StoreLayout.{tableAt, leftAt, semi-join-block}
 use Rattle.tables.specs.Columns.{columnOf}
-use Rattle.building.specs.Built.{siteIn, ImageOf, noReduced, reducedAt, OperandsOf}
-use Rattle.building.proofs.Images.{table-in}
+use Rattle.tables.specs.SiteWords.{siteIn, ImageOf, noReduced, reducedAt, OperandsOf}
+use Rattle.tables.proofs.Images.{table-in}
 
 -- ---- the tables and the kind
 

@@ -8,30 +8,29 @@ use mathlib.Core.Bool.{true}
 use mathlib.Core.List.{List, _++_}
 use lib.ListN.{length, getD, take, drop, length-append, take-append-drop}
 use lib.Seq.{sets, length-sets}
-use Rattle.model.specs.Site.{Row, Table, Site, isSite, mostPredicates}
+use Rattle.model.specs.Site.{Row, Table, Site, isSite, mostPredicates, mostRows}
 use Rattle.model.specs.Tables.{kindCount}
 use Rattle.model.specs.Store.{tableWords, rowsStart, storedStart, rowsIn, tablesIn, vpWords}
 use Rattle.model.proofs.Partition.{proper}
 use Rattle.model.proofs.Blocks.{Block, element-block, drop-block, getD-block}
 use Rattle.model.proofs.StoreLayout.{length-table, entry-and-rows, vpEntry, vp-entries, noTable, tableAt}
 use Rattle.model.proofs.Stores.{rows-back, tables-back}
-use Rattle.building.specs.Image.{imageWords, ImageHolds}
-use Rattle.building.specs.Built.{siteIn, ImageOf}
+use Rattle.tables.specs.SiteWords.{siteIn, ImageHolds, ImageOf}
 use Rattle.tables.proofs.Setting.{drop-sets, part-sets, part-block}
 
 -- a list by its front
 fronted : {l b : List ℕ} (n : ℕ) → take n l ≡ b → l ≡ b ++ drop n l
 fronted {l} n e = sym (take-append-drop n l) ∙ ap (λ (m : List ℕ). m ++ drop n l) e
 
 -- a site that stands in an image is the image's site
-pub image-of : (site : Site) (image : List ℕ) → isSite site ≡ true → imageWords ≤ length image → ImageHolds site image
+pub image-of : (site : Site) (image : List ℕ) → isSite site ≡ true → storedStart site ≤ length image → ImageHolds site image
     → ImageOf (length site) image × (siteIn (length site) image ≡ site)
 image-of site image yes-site long held =
     let back : siteIn (length site) image ≡ site =
     ap₂ (tablesIn (length site)) (fronted (3 * length site) (held .entries)) (fronted (length (vpWords site)) (held .rows))
     ∙ tables-back (rowsStart (length site)) site _ _ (proper site yes-site .row-limit) in (
       record {
-        long = long;
+        long = rw back long;
         proper = ap isSite back ∙ yes-site;
         predicates = ap length back;
         holds = subst (λ (s : Site). ImageHolds s image) (sym back) held;
@@ -66,11 +65,17 @@ few-semi-joins h = mul-le-mul h (mul-le-mul h (le-refl kindCount))
 pub few-predicates : {count : ℕ} {image : List ℕ} → ImageOf count image → count ≤ mostPredicates
 few-predicates o = rw (o .predicates) at (proper _ (o .proper) .predicate-limit)
 
--- the stored tables' rows would begin in the image
-pub stored-start-inside : {count : ℕ} {image : List ℕ} → ImageOf count image → storedStart (siteIn count image) ≤ imageWords
-stored-start-inside {count} {image} o =
-    let limits = proper (siteIn count image) (o .proper) in
+-- the stored tables' rows begin where those of the largest site do, or before
+pub stored-start-limit : (site : Site) → isSite site ≡ true → storedStart site ≤ rowsStart mostPredicates + 2 * mostRows
+stored-start-limit site yes-site =
+    let limits = proper site yes-site in
     omega (arith, few-semi-joins (limits .predicate-limit))
+
+-- the entries stand inside
+pub entries-inside : {count : ℕ} {image : List ℕ} → ImageOf count image → rowsStart count ≤ length image
+entries-inside {count} {image} o =
+    let h : rowsStart (length (siteIn count image)) ≤ length image = omega (arith, o .long) in
+    rw (o .predicates) at h
 
 -- ---- the tables
 

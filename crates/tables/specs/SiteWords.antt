@@ -1,23 +1,27 @@
--- An image's site, and the semi-joins of it.
+-- A site in words, and the semi-joins of it. An image is the front of a store, up to where the stored tables' rows begin.
 use Prim.Native.Nat.{ℕ, _+_, _*_, _≤_, _<_}
 use mathlib.Core.Path.{_≡_}
 use mathlib.Core.Bool.{true}
 use mathlib.Core.List.{List, []}
-use lib.ListN.{length, getD, drop}
+use lib.ListN.{length, getD, take, drop}
 use Rattle.model.specs.Site.{Site, isSite}
 use Rattle.model.specs.Tables.{semiJoin, kindCount}
-use Rattle.model.specs.Store.{Reduced, semiJoins, rowsStart, rowsIn, tablesIn}
+use Rattle.model.specs.Store.{Reduced, semiJoins, rowsStart, rowsIn, tablesIn, storedStart, vpEntries, vpWords}
 use Rattle.tables.specs.Columns.{kindOfColumns}
-use Rattle.building.specs.Image.{imageWords, ImageHolds}
-use Rattle.building.specs.declared.builder.Operands.{Operands}
+use Rattle.tables.specs.declared.operands.Operands.{Operands}
 
 -- the site whose entries and rows stand in an image
 abbrev pub siteIn : ℕ → List ℕ → Site
 siteIn count image = tablesIn count (drop 3 image) (drop (rowsStart count) image)
 
+-- the entries and the rows of a site stand in an image
+pub record ImageHolds (site : Site) (image : List ℕ) : Type 0 where
+  pub entries : take (3 * length site) (drop 3 image) ≡ vpEntries (rowsStart (length site)) site
+  pub rows : take (length (vpWords site)) (drop (rowsStart (length site)) image) ≡ vpWords site
+
 -- an image of `count` predicates
 pub record ImageOf (count : ℕ) (image : List ℕ) : Type 0 where
-  pub long : imageWords ≤ length image
+  pub long : storedStart (siteIn count image) ≤ length image
   pub proper : isSite (siteIn count image) ≡ true
   pub predicates : length (siteIn count image) ≡ count
   pub holds : ImageHolds (siteIn count image) image

@@ -1,19 +1,27 @@
 -- The entries of the two tables, at the places that x gives.
-use Prim.Native.Nat.{_<_}
+use Prim.Native.Nat.{_+_, _*_, _<_, _≤_}
 use native.Mathlib.Omega.{arith}
 use mir.Facts.{fits-widen}
+use lib.ListN.{length}
 use borrow.Author.Needs.{needs}
 use Rattle.model.specs.Site.{mostPredicates}
-use Rattle.building.proofs.Images.{few-predicates}
-use Rattle.building.proofs.Entries.{ownOf, partnerOf, some-predicate, own-below, partner-below, operands-of}
-use Rattle.building.proofs.builder.operands_at.Statement.{statement}
-use Rattle.building.proofs.builder.operands_at.Tie as tie
+use Rattle.tables.proofs.Images.{few-predicates, entries-inside}
+use Rattle.tables.proofs.Entries.{ownOf, partnerOf, some-predicate, own-below, partner-below, operands-of}
+use Rattle.tables.proofs.operands.operands_at.Statement.{statement}
+use Rattle.tables.proofs.operands.operands_at.Tie as tie
 
--- the two places
-small : (c : tie.Start) → (ownOf (c .args .count) (c .args .x) < mostPredicates) × (partnerOf (c .args .count) (c .args .x) < mostPredicates)
+-- the two places, and the words of their entries
+small : (c : tie.Start)
+    → let own = ownOf (c .args .count) (c .args .x) in
+    let partner = partnerOf (c .args .count) (c .args .x) in
+    let size = length (c .args .image .now) in
+    (own < mostPredicates) × (partner < mostPredicates) × (3 + 3 * own + 3 ≤ size) × (3 + 3 * partner + 3 ≤ size)
 small c =
     let few = few-predicates (c .pre .0) in
-    (omega (arith, own-below (c .pre .1)), omega (arith, partner-below (c .pre .1)))
+    let inside = entries-inside (c .pre .0) in
+    let own = own-below (c .pre .1) in
+    let partner = partner-below (c .pre .1) in
+    (omega arith, omega arith, omega arith, omega arith)
 
 div-p : tie.Need-div-p
 div-p c = some-predicate (c .before .args .count) (c .before .pre .1)

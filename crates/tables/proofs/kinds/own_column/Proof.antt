@@ -3,8 +3,8 @@ use Prim.Native.Nat.{ℕ, zero, suc}
 use mathlib.Core.Path.{_≡_, refl}
 use borrow.Author.Needs.{needs}
 use Rattle.model.specs.Tables.{subject, kindAt}
-use Rattle.building.proofs.semi_joins.own_column.Statement.{statement}
-use Rattle.building.proofs.semi_joins.own_column.Tie as tie
+use Rattle.tables.proofs.kinds.own_column.Statement.{statement}
+use Rattle.tables.proofs.kinds.own_column.Tie as tie
 
 own-subject : (k : ℕ) → (k ≡ 1 → ⊥) → subject ≡ kindAt k .0
 own-subject zero other = refl
