@@ -32,7 +32,7 @@ module _ {A B : Type 0} (f : A → B) where
 -- ---- rows
 
 -- asked of the row behind those done
-abbrev rowTest : List Row → Row → Bool
+abbrev pub rowTest : List Row → Row → Bool
 rowTest done r = isTerm (r .0) && isTerm (r .1) && aboveLast rowBefore done r
 
 pub rows-grow : Grows rowsProper rowTest

@@ -1,6 +1,7 @@
 pub mod Groups
 pub mod Setting
 pub mod Rows
+pub mod Proper
 pub mod Partners
 pub mod Images
 pub mod Entries
