@@ -21,7 +21,7 @@ use Rattle.model.proofs.StoreLayout.{length-table, layout-used, vp-entr
 
 -- ---- general
 
-same-words : (xs ys : List ℕ) → sameWords xs ys ≡ true → xs ≡ ys
+pub same-words : (xs ys : List ℕ) → sameWords xs ys ≡ true → xs ≡ ys
 same-words [] [] e = refl
 same-words [] (y ∷ ys) e = absurd (false≢true e)
 same-words (x ∷ xs) [] e = absurd (false≢true e)
@@ -31,7 +31,7 @@ same-words (x ∷ xs) (y ∷ ys) e =
     let q = same-words xs ys (s .1) in
     cc
 
-words-same : (xs : List ℕ) → sameWords xs xs ≡ true
+pub words-same : (xs : List ℕ) → sameWords xs xs ≡ true
 words-same [] = refl
 words-same (x ∷ xs) = and-make (eq-eqb x x refl) (words-same xs)
 

@@ -2,7 +2,7 @@
 use Prim.Native.Nat.{ℕ, zero, suc, _+_, _-_, _*_, _<_, _≤_}
 use native.Mathlib.Omega.{arith}
 use native.Mathlib.Nat.{add-zero}
-use mathlib.Core.Path.{_≡_, refl, sym, _∙_}
+use mathlib.Core.Path.{_≡_, refl, sym, ap, _∙_}
 use mathlib.Core.Bool.{Bool, true, false, cond}
 use mathlib.Core.List.{List, [], _∷_, _++_, append-nil}
 use lib.ListN.{length, getD, drop, length-append}
@@ -14,6 +14,7 @@ use Rattle.model.specs.Tables.{at, arePartners, semiJoin}
 use Rattle.model.specs.Store.{rowsIn}
 use Rattle.model.proofs.Booleans.{or-right}
 use Rattle.model.proofs.Membership.{any-append, keep-append}
+use Rattle.model.proofs.Blocks.{Block}
 use Rattle.tables.specs.Columns.{columnOf, kindOfColumns}
 use Rattle.tables.proofs.Rows.{rowAt, rows-at}
 
@@ -72,3 +73,12 @@ module _ (w : List ℕ) (p i own q n other : ℕ) where
     more-left m l h =
         let s : m ≡ i + suc (m - suc i) = omega arith in
         rw (s, left-at (m - suc i) (omega arith), e, length-append) (omega arith)
+
+    -- behind those that are left of the first i
+    pub left-block : (m : ℕ) → i < m → p + 2 * m ≤ length w → Block (leftOf w p m own q n other) (length (leftOf w p i own q n other)) (rowAt w p i ∷ [])
+    left-block m l h = record {
+      before = leftOf w p i own q n other;
+      after = leftOf w (p + 2 * suc i) (m - suc i) own q n other;
+      whole = ap (λ (k : ℕ). leftOf w p k own q n other) (omega arith) ∙ left-at (m - suc i) (omega arith) ∙ rw e refl;
+      length-before = refl;
+    }

@@ -3,5 +3,6 @@ pub mod kinds;
 pub mod number;
 pub mod operands;
 pub mod row_order;
+pub mod semi_join_compare;
 pub mod semi_join_count;
 pub mod semi_join_write;
