@@ -1,5 +1,5 @@
 -- The image of a site: the declarations of its entries, and the site that it holds.
-use Prim.Native.Nat.{ℕ, zero, suc, _+_, _*_, _<_, _≤_}
+use Prim.Native.Nat.{ℕ, _+_, _*_, _<_, _≤_}
 use native.Mathlib.Nat.{mul-le-mul}
 use native.Mathlib.Omega.{arith}
 use mathlib.Core.Path.{_≡_, refl, sym, ap, _∙_}
@@ -12,14 +12,15 @@ use Rattle.model.specs.Lists.{sum, isEmpty}
 use Rattle.model.specs.Reader.{Reply, gives, repeated, allRead}
 use Rattle.model.specs.Site.{Site, mostPredicates, mostRows, rowTotal}
 use Rattle.model.specs.SiteFile.{Declaration, declaration, tables, readSite, declarationOf}
-use Rattle.model.specs.Store.{rowsStart, vpEntries, vpWords}
+use Rattle.model.specs.Store.{rowsStart, vpWords}
 use Rattle.model.proofs.SiteFile.{sum-map, all-tables-read}
 use Rattle.model.proofs.StoreLayout.{length-all}
 use Rattle.model.proofs.Blocks.{Block, drop-block}
 use Rattle.tables.proofs.Setting.{part-sets, sets-block}
-use Rattle.tables.specs.SiteWords.{ImageHolds}
+use Rattle.tables.specs.SiteWords.{declaredEntries, declaredIn, declaredRows, ImageHolds}
+use Rattle.tables.proofs.Declared.{length-declaredIn, declared-vp}
 use Rattle.tables.specs.NumberAt.{numberAt}
-use Rattle.building.specs.Image.{imageWords, declaredEntries, declaredIn, declaredRows, TakenAs, DeclaredIn, SiteReadAs}
+use Rattle.building.specs.Image.{imageWords, TakenAs, DeclaredIn, SiteReadAs}
 use Rattle.tables.specs.declared.number.Number.the-variants.{Value}
 use Rattle.building.specs.declared.site_reader.Taken.{Taken}
 use Rattle.building.specs.declared.site_reader.Taken.the-variants.{At, Refused}
@@ -29,18 +30,9 @@ use Rattle.building.proofs.Writing.{length-declared}
 
 -- ---- the declarations of entries
 
-length-declaredIn : (k : ℕ) (entries : List ℕ) → length (declaredIn k entries) ≡ k
-length-declaredIn zero entries = refl
-length-declaredIn (suc k) entries = ap suc (length-declaredIn k (drop 3 entries))
-
 declared-back : (here : ℕ) (ds : List Declaration) (rest : List ℕ) → declaredIn (length ds) (declaredEntries here ds ++ rest) ≡ ds
 declared-back here [] rest = refl
 declared-back here (d ∷ ds) rest = ap (λ (more : List Declaration). d ∷ more) (declared-back (here + 2 * d .1) ds rest)
-
-declared-vp : (here : ℕ) (site : Site) → declaredEntries here (map declarationOf site) ≡ vpEntries here site
-unfolding vpEntries
-declared-vp here [] = refl
-declared-vp here (t ∷ ts) = rw (declared-vp (here + 2 * length (t .rows)) ts) refl
 
 -- the declarations of a site are as many as its tables
 site-size : (count : ℕ) (entries : List ℕ) (site : Site) → map declarationOf site ≡ declaredIn count entries → length site ≡ count

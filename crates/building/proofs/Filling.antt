@@ -1,38 +1,24 @@
 -- What has been written when the first x semi-joins are done: their entries in the image, their rows in the store.
 use Prim.Native.Nat.{ℕ, _+_, _*_, _≤_, _<_}
 use native.Mathlib.Nat.{le-refl}
-use native.Mathlib.Numerals.{add-one}
 use native.Mathlib.Omega.{arith}
 use mathlib.Core.Path.{_≡_, refl, sym, ap, _∙_}
 use mathlib.Core.Logic.{inl, inr}
 use mathlib.Core.Bool.{Bool, true, false, cond}
-use mathlib.Core.List.{List, [], _∷_, _++_, append-nil}
+use mathlib.Core.List.{List, [], _++_, append-nil}
 use lib.ListN.{length, getD, take, drop, set, length-append, take-append-drop}
-use lib.Seq.{length-take-le, take-all, take-suc, sets, length-sets}
+use lib.Seq.{length-take-le, take-all, sets, length-sets}
 use Rattle.model.specs.Site.{Row, mostRows}
 use Rattle.model.specs.Tables.{kindCount}
 use Rattle.model.specs.Store.{Reduced, semiJoins, isKept, kept, tableWords, semiJoinEntries, storedStart, keptWords, layout}
 use Rattle.model.proofs.Blocks.{element-block, getD-block, head-block, each-append}
-use Rattle.model.proofs.StoreLayout.{length-table, length-all, entries-append, length-entries, entry-block, semiJoinEntry, semi-join-entries, length-semi-joins, layout-used}
+use Rattle.model.proofs.StoreLayout.{length-table, entry-block, semiJoinEntry, semi-join-entries, layout-used}
 use Rattle.tables.specs.SiteWords.{siteIn, ImageOf, noReduced, reducedAt, CountsIn}
+use Rattle.tables.proofs.Reduced.{length-entries-of, entries-more, kept-more, take-more, length-all-of}
 use Rattle.tables.proofs.Setting.{sets-append, sets-two, getD-sets, sets-block}
 use Rattle.tables.proofs.Images.{image-kept, few-predicates, few-semi-joins, entries-inside}
 
 -- ---- one semi-join more
-
-length-entries-of : (t first : ℕ) (xs : List Reduced) → length (semiJoinEntries t first xs) ≡ 2 * length xs
-length-entries-of t first xs = rw (semi-join-entries t first xs) (length-entries (kept t) (semiJoinEntry t) 2 (λ here x. refl) first xs)
-
-entries-more : (t first : ℕ) (xs : List Reduced) (r : Reduced)
-    → semiJoinEntries t first (xs ++ (r ∷ [])) ≡ semiJoinEntries t first xs ++ semiJoinEntry t (first + length (keptWords t xs)) r
-entries-more t first xs r =
-    rw (semi-join-entries t first (xs ++ (r ∷ [])), semi-join-entries t first xs, length-all (kept t) xs) (entries-append (kept t) (semiJoinEntry t) first xs (r ∷ []))
-
-kept-more : (t : ℕ) (xs : List Reduced) (r : Reduced) → keptWords t (xs ++ (r ∷ [])) ≡ keptWords t xs ++ tableWords (kept t r)
-kept-more t xs r = each-append (λ (x : Reduced). tableWords (kept t x)) xs (r ∷ []) ∙ ap (λ (l : List ℕ). keptWords t xs ++ l) (append-nil (tableWords (kept t r)))
-
-take-more : (xs : List Reduced) (x : ℕ) → x < length xs → take (x + 1) xs ≡ take x xs ++ (getD xs x noReduced ∷ [])
-take-more xs x h = rw add-one (take-suc xs x noReduced h)
 
 -- what a semi-join leaves, if it is stored
 abbrev leftIf : Bool → List Reduced → ℕ → List Row
@@ -86,21 +72,18 @@ module _ {count : ℕ} {image₀ : List ℕ} (o : ImageOf count image₀) where
   abbrev all : List Reduced
   all = semiJoins (siteIn count image₀)
 
-  pub length-all-of : length all ≡ count * (count * kindCount)
-  length-all-of = rw (o .predicates) at (length-semi-joins (siteIn count image₀))
-
   module _ {t first x here : ℕ} {image : List ℕ} (f : Filled t (3 + 3 * count) first all image₀ image here x) where
     -- the site is as it was
     pub filled-image : x ≤ count * (count * kindCount) → ImageOf count image × (siteIn count image ≡ siteIn count image₀)
     filled-image h =
         let es = semiJoinEntries t first (take x all) in
         let n = length-entries-of t first (take x all) in
-        let m = length-take-le x all (rw length-all-of h) in
+        let m = length-take-le x all (rw (length-all-of o) h) in
         rw (f .written) (image-kept o (3 + 3 * count) es (inr (omega arith)) (omega arith))
 
     module _ (h : x ≡ count * (count * kindCount)) where
       whole : take x all ≡ all
-      whole = take-all x all (rw (length-all-of, h) (le-refl _))
+      whole = take-all x all (rw (length-all-of o, h) (le-refl _))
 
       pub filled-written : image ≡ sets image₀ (3 + 3 * count) (semiJoinEntries t first all)
       filled-written = rw whole at (f .written)
@@ -115,7 +98,7 @@ module _ {count : ℕ} {image₀ : List ℕ} (o : ImageOf count image₀) where
     entered = sets image₀ (3 + 3 * count) (semiJoinEntries t first all)
 
     length-entered : length (semiJoinEntries t first all) ≡ 2 * (count * (count * kindCount))
-    length-entered = length-entries-of t first all ∙ ap (λ (k : ℕ). 2 * k) length-all-of
+    length-entered = length-entries-of t first all ∙ ap (λ (k : ℕ). 2 * k) (length-all-of o)
 
     image-entered : ImageOf count entered × (siteIn count entered ≡ siteIn count image₀)
     image-entered = image-kept o (3 + 3 * count) (semiJoinEntries t first all) (inr (omega arith)) (omega (arith, length-entered))
@@ -132,7 +115,7 @@ module _ {count : ℕ} {image₀ : List ℕ} (o : ImageOf count image₀) where
         let few = few-predicates o in
         let fewer = few-semi-joins few in
         let inside = entries-inside o in
-        let entry = entry-block (kept t) (semiJoinEntry t) 2 (λ here r. refl) first (element-block noReduced all x (rw length-all-of h)) in
+        let entry = entry-block (kept t) (semiJoinEntry t) 2 (λ here r. refl) first (element-block noReduced all x (rw (length-all-of o) h)) in
         getD-block (sets-block image₀ (3 + 3 * count) es (omega arith)) (2 * x) 0 (omega arith)
         ∙ rw (semi-join-entries t first all) (head-block entry 0)
 

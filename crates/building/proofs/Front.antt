@@ -4,20 +4,21 @@ use native.Mathlib.Nat.{zero-add}
 use native.Mathlib.Omega.{arith}
 use mathlib.Core.Path.{_≡_, refl, sym, ap, _∙_, subst}
 use mathlib.Core.Bool.{Bool, true, false, cond}
-use mathlib.Core.List.{List, [], _∷_, _++_, append-assoc}
-use lib.ListN.{length, getD, take, drop, length-append}
-use lib.Seq.{drop-append-seam, drop-drop, sets, length-sets, sets-eq}
+use mathlib.Core.List.{List, [], _∷_, _++_}
+use lib.ListN.{length, getD, take, length-append}
+use lib.Seq.{sets, length-sets, sets-eq}
 use Rattle.model.specs.Site.{Table, Site, rowTotal, mostRows}
 use Rattle.model.specs.Tables.{kindCount}
 use Rattle.model.specs.Store.{Reduced, semiJoins, isKept, kept, rowsStart, vpEntries, semiJoinEntries, storedStart, vpWords, keptWords, layout}
 use Rattle.model.specs.Calls.{over}
-use Rattle.model.proofs.Blocks.{Block, block-at, drop-block, take-block, getD-block}
-use Rattle.model.proofs.StoreLayout.{length-table, length-vp-entries, length-semi-join-entries, front, length-before-kept, layout-used}
+use Rattle.model.proofs.Blocks.{Block, block-at, take-block, getD-block, joined-block}
+use Rattle.model.proofs.StoreLayout.{length-table, length-vp-entries, length-semi-join-entries, front, length-before-kept, length-layout, layout-parts}
 use Rattle.tables.specs.SiteWords.{siteIn, ImageHolds, ImageOf, noReduced, CountsIn}
 use Rattle.tables.proofs.Setting.{sets-append, drop-sets, sets-block, part-block}
 use Rattle.tables.proofs.Images.{few-predicates, few-semi-joins, stored-start-limit, entries-inside}
 use Rattle.tables.proofs.Entries.{counted-of}
-use Rattle.building.proofs.Filling.{length-all-of, image-fronted, counts-fronted}
+use Rattle.tables.proofs.Reduced.{length-all-of}
+use Rattle.building.proofs.Filling.{image-fronted, counts-fronted}
 
 -- ---- where it ends
 
@@ -48,10 +49,6 @@ last-entry {count} {image} o some =
 
 -- ---- how many words a store has
 
-pub length-layout : (t : ℕ) (site : Site) → length (layout t site) ≡ storedStart site + length (keptWords t (semiJoins site))
-unfolding layout
-length-layout t site = sym (layout-used t site)
-
 kept-fewer : (t : ℕ) (r : Reduced) → length (kept t r) ≤ length (r .rows)
 unfolding kept
 kept-fewer t r = go (isKept t r)
@@ -75,17 +72,6 @@ used-limit {count} {image} o t =
     rw length-layout (omega (arith, stored-start-limit _ (o .proper), length-all-of o))
 
 -- ---- the image with all words of the front
-
--- blocks one behind the other
-joined-block : {A : Type 0} {l a b : List A} {i : ℕ} → Block l i a → Block l (i + length a) b → Block l i (a ++ b)
-joined-block {A} {l} {a} {b} {i} x y =
-    let rest : x .after ≡ drop (i + length a) l = sym (drop-append-seam a (x .after)) ∙ ap (drop (length a)) (sym (drop-block x)) ∙ drop-drop (length a) i l in
-    record {
-      before = x .before;
-      after = y .after;
-      whole = x .whole ∙ ap (λ (m : List A). x .before ++ (a ++ m)) (rest ∙ drop-block y) ∙ simp append-assoc;
-      length-before = x .length-before;
-    }
 
 -- the four parts are the front
 front-words : (t : ℕ) (site : Site) {image : List ℕ} → Block image 0 (length site ∷ t ∷ length (layout t site) ∷ [])
@@ -161,10 +147,6 @@ module _ (t : ℕ) {count : ℕ} {image : List ℕ} (o : ImageOf count image) wh
 -- words set from the first place on
 sets-over : (words memory : List ℕ) → length words ≤ length memory → sets memory 0 words ≡ over words memory
 sets-over words memory h = let z = zero-add (length words) in sets-eq words memory 0 (omega arith) ∙ rw z refl
-
-layout-parts : (t : ℕ) (site : Site) → layout t site ≡ (front t site ++ vpWords site) ++ keptWords t (semiJoins site)
-unfolding layout
-layout-parts t site = simp append-assoc
 
 -- the front, and the stored tables' rows behind it
 pub store-over : (t : ℕ) (site : Site) (memory : List ℕ) → length (layout t site) ≤ length memory

@@ -20,7 +20,8 @@ use Rattle.model.proofs.Readers.{repeated-read}
 use Rattle.model.proofs.Numbers.{number-read}
 use Rattle.model.proofs.SiteFile.{rows-grow, row-reads, declared-grow, declaration-reads}
 use Rattle.tables.specs.NumberAt.{placed, numberAt}
-use Rattle.building.specs.Image.{declaredIn, declaredRows, TakenAs}
+use Rattle.tables.specs.SiteWords.{declaredIn, declaredRows}
+use Rattle.building.specs.Image.{TakenAs}
 use Rattle.tables.specs.declared.number.Number.the-variants.{Value, Bad}
 use Rattle.building.specs.declared.site_reader.Taken.{Taken}
 use Rattle.building.specs.declared.site_reader.Taken.the-variants.{At, Refused}

@@ -1,6 +1,5 @@
 -- Words that are written one behind the other.
 use Prim.Native.Nat.{ℕ, _+_, _*_}
-use native.Mathlib.Nat.{add-zero}
 use native.Mathlib.Numerals.{add-one, add-two}
 use native.Mathlib.Omega.{arith}
 use mathlib.Core.Path.{_≡_, refl}
@@ -13,17 +12,11 @@ use Rattle.model.specs.SiteFile.{Declaration}
 use Rattle.model.specs.Store.{tableWords, vpWords}
 use Rattle.model.proofs.Blocks.{each-append}
 use Rattle.model.proofs.StoreLayout.{length-all}
+use Rattle.tables.proofs.Declared.{declared-snoc}
 use Rattle.tables.proofs.Setting.{sets-append}
-use Rattle.building.specs.Image.{declaredEntries}
+use Rattle.tables.specs.SiteWords.{declaredEntries}
 
 -- ---- entries
-
-declared-snoc : (here : ℕ) (done : List Declaration) (d : Declaration)
-    → declaredEntries here (done ++ d ∷ []) ≡ declaredEntries here done ++ (d .0 ∷ d .1 ∷ (here + 2 * sum (λ d. d .1) done) ∷ [])
-declared-snoc here [] d = rw add-zero refl
-declared-snoc here (x ∷ xs) d =
-    let e : here + 2 * (x .1 + sum (λ d. d .1) xs) ≡ here + 2 * x .1 + 2 * sum (λ d. d .1) xs = omega arith in
-    rw (e, declared-snoc (here + 2 * x .1) xs d) refl
 
 pub length-declared : (here : ℕ) (ds : List Declaration) → length (declaredEntries here ds) ≡ 3 * length ds
 length-declared here [] = refl

@@ -1,14 +1,12 @@
 -- The image of a site: the front of its store, up to where the stored tables' rows begin, in local memory.
-use Prim.Native.Nat.{ℕ, zero, suc, _+_, _*_, _≤_}
+use Prim.Native.Nat.{ℕ, _+_, _*_, _≤_}
 use mathlib.Core.Path.{_≡_}
-use mathlib.Core.List.{List, [], _∷_}
-use lib.ListN.{length, getD, take, drop}
-use Rattle.model.specs.Lists.{sum}
+use mathlib.Core.List.{List}
+use lib.ListN.{length, take, drop}
 use Rattle.model.specs.Reader.{Reply, refused, gives}
 use Rattle.model.specs.Site.{Site, mostPredicates, mostRows}
-use Rattle.model.specs.SiteFile.{Declaration}
 use Rattle.model.specs.Store.{rowsStart}
-use Rattle.tables.specs.SiteWords.{ImageHolds}
+use Rattle.tables.specs.SiteWords.{declaredEntries, declaredIn, declaredRows, ImageHolds}
 use Rattle.building.specs.declared.site_reader.Taken.{Taken}
 use Rattle.building.specs.declared.site_reader.Taken.the-variants.{At, Refused as TakenRefused}
 use Rattle.building.specs.declared.site_reader.SiteRead.{SiteRead}
@@ -17,22 +15,6 @@ use Rattle.building.specs.declared.site_reader.SiteRead.the-variants.{Pr
 -- enough for every site
 abbrev pub imageWords : ℕ
 imageWords = rowsStart mostPredicates + 2 * mostRows
-
--- ---- declarations as entries
-
--- the entries of declared predicates, whose rows begin at `here`
-abbrev pub declaredEntries : ℕ → List Declaration → List ℕ
-declaredEntries here [] = []
-declaredEntries here (d ∷ ds) = d .0 ∷ d .1 ∷ here ∷ declaredEntries (here + 2 * d .1) ds
-
--- the declarations of k entries
-abbrev pub declaredIn : ℕ → List ℕ → List Declaration
-declaredIn zero entries = []
-declaredIn (suc k) entries = (getD entries 0 0, getD entries 1 0) ∷ declaredIn k (drop 3 entries)
-
--- how many rows k entries declare
-abbrev pub declaredRows : ℕ → List ℕ → ℕ
-declaredRows k entries = sum (λ d. d .1) (declaredIn k entries)
 
 -- an image has k entries, for rows that fit
 pub record DeclaredIn (k : ℕ) (image : List ℕ) : Type 0 where

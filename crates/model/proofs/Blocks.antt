@@ -5,7 +5,7 @@ use native.Mathlib.Nat.{zero-mul, suc-mul, add-comm, add-zero}
 use mathlib.Core.Path.{_≡_, refl, sym, ap, _∙_}
 use mathlib.Core.List.{List, [], _∷_, _++_, append-assoc}
 use lib.ListN.{length, getD, take, drop, length-append, List·getD-append}
-use lib.Seq.{split-at, length-take-le, take-append-seam, drop-at, getD-drop}
+use lib.Seq.{split-at, length-take-le, take-append-seam, drop-at, getD-drop, drop-append-seam, drop-drop}
 use Rattle.model.specs.Lists.{each}
 
 module _ {A : Type 0} where
@@ -73,3 +73,14 @@ module _ {A B : Type 0} (f : A → List B) where
 
     pub equal-block : {l : List A} {i : ℕ} {x : A} → Block l i (x ∷ []) → Block (each f l) (i * n) (f x)
     equal-block b = block-at (length-each (b .before) ∙ ap (λ (k : ℕ). k * n) (b .length-before)) (each-block b)
+
+-- blocks one behind the other
+pub joined-block : {A : Type 0} {l a b : List A} {i : ℕ} → Block l i a → Block l (i + length a) b → Block l i (a ++ b)
+joined-block {A} {l} {a} {b} {i} x y =
+    let rest : x .after ≡ drop (i + length a) l = sym (drop-append-seam a (x .after)) ∙ ap (drop (length a)) (sym (drop-block x)) ∙ drop-drop (length a) i l in
+    record {
+      before = x .before;
+      after = y .after;
+      whole = x .whole ∙ ap (λ (m : List A). x .before ++ (a ++ m)) (rest ∙ drop-block y) ∙ simp append-assoc;
+      length-before = x .length-before;
+    }

@@ -62,10 +62,10 @@ declaredTerms ds = map (λ d. d .0) ds
 abbrev declaredRows : List Declaration → ℕ
 declaredRows ds = sum (λ d. d .1) ds
 
-abbrev declaredProper : List Declaration → Bool
+abbrev pub declaredProper : List Declaration → Bool
 declaredProper ds = all isTerm (declaredTerms ds) && ascends ltb (declaredTerms ds) && leb (declaredRows ds) mostRows
 
-abbrev declarationTest : List Declaration → Declaration → Bool
+abbrev pub declarationTest : List Declaration → Declaration → Bool
 declarationTest done d = isTerm (d .0) && aboveLast ltb (declaredTerms done) (d .0) && leb (declaredRows done + d .1) mostRows
 
 pub declared-grow : Grows declaredProper declarationTest
@@ -138,7 +138,7 @@ tables-written (t ∷ more) done rest g =
 -- ---- the file
 
 -- what is asked of the declarations is what a site is asked for them
-declared-site : (site : Site) → declaredProper (map declarationOf site) ≡ (predicatesProper site && leb (rowTotal site) mostRows)
+pub declared-site : (site : Site) → declaredProper (map declarationOf site) ≡ (predicatesProper site && leb (rowTotal site) mostRows)
 declared-site site = rw (map-map, all-map, sum-map) refl
 
 site-read : (bytes : List ℕ) {site : Site} {rest : List ℕ} → siteFile bytes ≡ gives (site, rest)

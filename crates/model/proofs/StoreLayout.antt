@@ -229,3 +229,13 @@ module _ (t : ℕ) (site : Site) where
         rows = λ e. rw (second, e) (take-rows (leftAt site i j k) (rw e at rows));
         not-stored = λ e. rw (second, e) refl;
       }
+
+-- ---- the whole
+
+pub length-layout : (t : ℕ) (site : Site) → length (layout t site) ≡ storedStart site + length (keptWords t (semiJoins site))
+unfolding layout
+length-layout t site = sym (layout-used t site)
+
+pub layout-parts : (t : ℕ) (site : Site) → layout t site ≡ (front t site ++ vpWords site) ++ keptWords t (semiJoins site)
+unfolding layout
+layout-parts t site = simp append-assoc

@@ -71,7 +71,7 @@ tables-back here (t ∷ ts) more rest h =
     (ap (λ (l : Site). t ∷ l) (tables-back (here + 2 * length (t .rows)) ts more rest (omega arith)))
 
 -- the first three words
-first-words : (t : ℕ) (site : Site) (rest : List ℕ)
+pub first-words : (t : ℕ) (site : Site) (rest : List ℕ)
     → (getD (layout t site ++ rest) 0 0 ≡ length site) × (getD (layout t site ++ rest) 1 0 ≡ t) × (wordsUsed (layout t site ++ rest) ≡ wordsUsed (layout t site))
 unfolding layout
 first-words t site rest = (refl, refl, refl)

@@ -29,7 +29,7 @@ none-compared w at k = record { place = omega arith; inside = omega arith; same 
 
 module _ (w : List ℕ) (at k : ℕ) (fits : at + 2 * k ≤ length w) where
   -- as many rows as are compared with
-  as-many : (rows : List Row) → sameWords (take (2 * k) (drop at w)) (tableWords rows) ≡ true → length rows ≡ k
+  pub as-many : (rows : List Row) → sameWords (take (2 * k) (drop at w)) (tableWords rows) ≡ true → length rows ≡ k
   as-many rows e =
       let long : 2 * k ≤ length (drop at w) = rw length-drop (omega arith) in
       omega (arith, sym (length-take-le (2 * k) (drop at w) long) ∙ ap length (same-words (take (2 * k) (drop at w)) (tableWords rows) e) ∙ length-table rows)

@@ -103,7 +103,7 @@ module _ {count : ℕ} {image : List ℕ} (o : ImageOf count image) (x : ℕ) (h
   full-few : length (reducedAt site x .full) ≤ mostRows
   full-few = rw reduced-of (omega (arith, table-fewer site (ownOf count x), proper site (o .proper) .row-limit))
 
-  left-fewer : length (reducedAt site x .rows) ≤ length (reducedAt site x .full)
+  pub left-fewer : length (reducedAt site x .rows) ≤ length (reducedAt site x .full)
   unfolding semiJoin
   left-fewer = rw reduced-of (keep-fewer _ (tableAt site (ownOf count x) .rows))
 

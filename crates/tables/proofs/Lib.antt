@@ -6,3 +6,5 @@ pub mod Partners
 pub mod Comparing
 pub mod Images
 pub mod Entries
+pub mod Reduced
+pub mod Declared

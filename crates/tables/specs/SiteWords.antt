@@ -1,14 +1,43 @@
 -- A site in words, and the semi-joins of it. An image is the front of a store, up to where the stored tables' rows begin.
-use Prim.Native.Nat.{ℕ, _+_, _*_, _≤_, _<_}
+use Prim.Native.Nat.{ℕ, zero, suc, _+_, _*_, _≤_, _<_}
 use mathlib.Core.Path.{_≡_}
-use mathlib.Core.Bool.{true}
-use mathlib.Core.List.{List, []}
+use mathlib.Core.Bool.{Bool, true, _&&_}
+use mathlib.Core.List.{List, [], _∷_, map}
 use lib.ListN.{length, getD, take, drop}
-use Rattle.model.specs.Site.{Site, isSite}
+use lib.Dec.{ltb, leb}
+use Rattle.model.specs.Lists.{all, sum, ascends, sameWords}
+use Rattle.model.specs.Numbers.{isTerm}
+use Rattle.model.specs.SiteFile.{Declaration}
+use Rattle.model.specs.Site.{Site, isSite, mostRows}
 use Rattle.model.specs.Tables.{semiJoin, kindCount}
 use Rattle.model.specs.Store.{Reduced, semiJoins, rowsStart, rowsIn, tablesIn, storedStart, vpEntries, vpWords}
 use Rattle.tables.specs.Columns.{kindOfColumns}
 use Rattle.tables.specs.declared.operands.Operands.{Operands}
+
+-- ---- the entries
+
+-- the entries of declared predicates, whose rows begin at `here`
+abbrev pub declaredEntries : ℕ → List Declaration → List ℕ
+declaredEntries here [] = []
+declaredEntries here (d ∷ ds) = d .0 ∷ d .1 ∷ here ∷ declaredEntries (here + 2 * d .1) ds
+
+-- the declarations of k entries
+abbrev pub declaredIn : ℕ → List ℕ → List Declaration
+declaredIn zero entries = []
+declaredIn (suc k) entries = (getD entries 0 0, getD entries 1 0) ∷ declaredIn k (drop 3 entries)
+
+-- how many rows k entries declare
+abbrev pub declaredRows : ℕ → List ℕ → ℕ
+declaredRows k entries = sum (λ d. d .1) (declaredIn k entries)
+
+-- the entries of k predicates: terms that ascend, rows within the limit, and each start where the rows before end
+unfoldable pub entriesProper : ℕ → List ℕ → Bool
+entriesProper k words =
+    let ds = declaredIn k (drop 3 words) in
+    (all isTerm (map (λ d. d .0) ds) && ascends ltb (map (λ d. d .0) ds) && leb (sum (λ d. d .1) ds) mostRows)
+    && sameWords (take (3 * k) (drop 3 words)) (declaredEntries (rowsStart k) ds)
+
+-- ---- the site
 
 -- the site whose entries and rows stand in an image
 abbrev pub siteIn : ℕ → List ℕ → Site

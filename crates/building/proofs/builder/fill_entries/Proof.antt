@@ -12,7 +12,8 @@ use Rattle.building.specs.Image.{imageWords}
 use Rattle.tables.specs.SiteWords.{siteIn}
 use Rattle.tables.proofs.Images.{mostSemiJoins, few-predicates, few-semi-joins, stored-start-limit, entries-inside}
 use Rattle.tables.proofs.Entries.{Counted, counted-kept, counted-of}
-use Rattle.building.proofs.Filling.{Filled, filled-none, filled-more, length-all-of, filled-image, filled-written, filled-used}
+use Rattle.tables.proofs.Reduced.{length-all-of}
+use Rattle.building.proofs.Filling.{Filled, filled-none, filled-more, filled-image, filled-written, filled-used}
 use Rattle.building.proofs.builder.fill_entries.Statement.{statement}
 use Rattle.building.proofs.builder.fill_entries.Tie as tie
 

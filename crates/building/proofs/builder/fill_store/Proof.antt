@@ -10,7 +10,8 @@ use Rattle.model.specs.Calls.{over}
 use borrow.Author.Needs.{needs}
 use Rattle.tables.specs.SiteWords.{siteIn}
 use Rattle.tables.proofs.Images.{few-predicates, stored-start-limit}
-use Rattle.building.proofs.Front.{FrontIn, front-in, used-limit, length-layout, store-over}
+use Rattle.model.proofs.StoreLayout.{length-layout}
+use Rattle.building.proofs.Front.{FrontIn, front-in, used-limit, store-over}
 use Rattle.building.proofs.Replies.{memory-refused, memory-filled}
 use Rattle.building.proofs.builder.fill_store.Statement.{statement}
 use Rattle.building.proofs.builder.fill_store.Tie as tie

@@ -13,7 +13,8 @@ use Rattle.model.specs.Store.{isKept, semiJoins}
 use Rattle.tables.specs.SiteWords.{siteIn, reducedAt}
 use Rattle.tables.proofs.Images.{mostSemiJoins, few-predicates, few-semi-joins, entries-inside}
 use Rattle.tables.proofs.Entries.{Counted, counted-kept, counted-of}
-use Rattle.building.proofs.Filling.{Stored, stored-none, stored-more, stored-room, stored-all, length-all-of}
+use Rattle.tables.proofs.Reduced.{length-all-of}
+use Rattle.building.proofs.Filling.{Stored, stored-none, stored-more, stored-room, stored-all}
 use Rattle.building.proofs.builder.write_stored.Statement.{statement}
 use Rattle.building.proofs.builder.write_stored.Tie as tie
 

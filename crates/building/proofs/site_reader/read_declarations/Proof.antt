@@ -20,7 +20,8 @@ use Rattle.model.specs.Store.{rowsStart}
 use Rattle.model.proofs.Growing.{sum-snoc}
 use Rattle.model.proofs.Growing.{above-none, above-snoc}
 use Rattle.tables.specs.NumberAt.{numberAt}
-use Rattle.building.specs.Image.{imageWords, declaredEntries}
+use Rattle.tables.specs.SiteWords.{declaredEntries}
+use Rattle.building.specs.Image.{imageWords}
 use Rattle.tables.specs.declared.number.Number.the-variants.{Value}
 use Rattle.building.proofs.Reading.{PartRead, none-read, all-read, next-refused, next-read, no-term, wide-term, term-below, no-count, many-rows, declaration-given, number-small}
 use Rattle.building.proofs.Declarations.{rows-room}
