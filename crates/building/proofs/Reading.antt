@@ -1,57 +1,30 @@
--- Readers as the code runs them: a number at a place, the elements read so far, and each way out of a row and of a declaration.
+-- The site's reader as the code runs it: the tables read so far, and each way out of a row and of a declaration.
 use Prim.Native.Nat.{ℕ, suc, _+_, _-_, _*_, _<_, _≤_}
 use native.Mathlib.Omega.{arith}
 use mathlib.Core.Path.{_≡_, refl, sym, ap, _∙_}
 use mathlib.Core.Bool.{true, false, _&&_}
-use mathlib.Core.Option.{Option, none, some}
+use mathlib.Core.Option.{none}
 use mathlib.Core.List.{List, [], _∷_, _++_, map}
-use lib.ListN.{length, getD, drop, length-append}
+use lib.ListN.{length, getD, drop}
 use lib.Seq.{drop-drop, getD-drop}
 use lib.Dec.{ltb, leb}
-use borrow.Author.Tests.{lt-ltb, leb-true}
+use borrow.Author.Tests.{leb-true}
 use Rattle.model.specs.Lists.{all, sum, ascends, aboveLast}
-use Rattle.model.specs.Reader.{Reply, refused, gives, Reader, after, ask, repeated, wholeFile, allRead}
-use Rattle.model.specs.Numbers.{Sized, numberIn, orRefused, number, isTerm, areBytes, numberLimit}
+use Rattle.model.specs.Reader.{Reply, refused, gives, after, ask, repeated, wholeFile, allRead}
+use Rattle.model.specs.Numbers.{isTerm}
 use Rattle.model.specs.Site.{Row, rowBefore, Site, mostPredicates, mostRows, rowTotal}
 use Rattle.model.specs.SiteFile.{Declaration, declaration, row, tables, siteFile, readSite}
-use Rattle.model.proofs.Booleans.{and-cases, and-make}
+use Rattle.model.proofs.Booleans.{and-cases}
 use Rattle.model.proofs.Growing.{sum-snoc}
 use Rattle.model.proofs.Readers.{repeated-read}
-use Rattle.model.proofs.Numbers.{number-read}
+use Rattle.tables.proofs.NumberReplies.{number-bad, number-value}
 use Rattle.model.proofs.SiteFile.{rows-grow, row-reads, declared-grow, declaration-reads}
-use Rattle.tables.specs.NumberAt.{placed, numberAt}
+use Rattle.tables.specs.NumberAt.{numberAt}
 use Rattle.tables.specs.SiteWords.{declaredIn, declaredRows}
 use Rattle.building.specs.Image.{TakenAs}
 use Rattle.tables.specs.declared.number.Number.the-variants.{Value, Bad}
 use Rattle.building.specs.declared.site_reader.Taken.{Taken}
 use Rattle.building.specs.declared.site_reader.Taken.the-variants.{At, Refused}
-
--- ---- a number at a place
-
-module _ (n : ℕ) (s : List ℕ) (at : ℕ) where
-  number-bad : numberAt s at ≡ Bad → number n (drop at s) ≡ refused n
-  unfolding number numberAt
-  number-bad e = go (numberIn (drop at s)) e
-    where
-      go : (x : Option Sized) → placed at x ≡ Bad → orRefused n (drop at s) x ≡ refused n
-      go none q = refl
-      go (some x) q = cc
-
-  number-value : {v next : ℕ} → numberAt s at ≡ Value v next → number n (drop at s) ≡ gives (v, drop next s)
-  unfolding number numberAt
-  number-value {v} {next} e = go (numberIn (drop at s)) e
-    where
-      go : (x : Option Sized) → placed at x ≡ Value v next → orRefused n (drop at s) x ≡ gives (v, drop next s)
-      go none q = cc
-      go (some x) q = cc (drop-drop (x .1) at s)
-
-bytes-are : (s : List ℕ) → ((i : ℕ) → getD s i 0 < 256) → areBytes s ≡ true
-bytes-are [] h = refl
-bytes-are (b ∷ bs) h = and-make (lt-ltb b 256 (h 0)) (bytes-are bs (λ i. h (suc i)))
-
--- a number that stands in bytes is small
-pub number-small : (s : List ℕ) (at : ℕ) {v next : ℕ} → ((i : ℕ) → getD s i 0 < 256) → numberAt s at ≡ Value v next → v < numberLimit
-number-small s at h e = number-read 2 (drop at s) (bytes-are (drop at s) (λ i. rw getD-drop (h (at + i)))) (number-value 2 s at e) .2
 
 -- ---- a reply as the code has it
 
@@ -67,35 +40,6 @@ module _ {A : Type 0} (Held : A → Type 0) (s : List ℕ) {r : Taken} where
       let p : t .0 ≡ next = cc in
       let q : x .1 ≡ drop next s = rw p at (t .2) in
       (x .0, ap (λ (rest : List ℕ). gives (x .0, rest)) q, t .3)
-
--- ---- elements, read one by one
-
--- of n elements, `done` were read, and `rest` is left of the bytes
-pub record PartRead {A : Type 0} (one : List A → Reader A) (n : ℕ) (bytes : List ℕ) (done : List A) (rest : List ℕ) : Type 0 where
-  pub left : ℕ
-  pub count : length done + left ≡ n
-  pub same : repeated one n [] bytes ≡ repeated one left done rest
-
-module _ {A : Type 0} {one : List A → Reader A} {n : ℕ} {bytes : List ℕ} where
-  pub none-read : PartRead one n bytes [] bytes
-  none-read = record { left = n; count = omega arith; same = refl }
-
-  module _ {done : List A} {rest : List ℕ} (part : PartRead one n bytes done rest) where
-    pub all-read : n ≤ length done → repeated one n [] bytes ≡ gives (done, rest)
-    unfolding repeated
-    all-read h = let none : part .left ≡ 0 = omega arith in part .same ∙ rw none refl
-
-    module _ (more : length done < n) where
-      one-more : repeated one n [] bytes ≡ repeated one (suc (part .left - 1)) done rest
-      one-more = let e : part .left ≡ suc (part .left - 1) = omega arith in rw e at (part .same)
-
-      pub next-refused : {m : ℕ} → one done rest ≡ refused m → repeated one n [] bytes ≡ refused m
-      unfolding repeated after
-      next-refused q = one-more ∙ rw q refl
-
-      pub next-read : {x : A} {rest′ : List ℕ} → one done rest ≡ gives (x, rest′) → PartRead one n bytes (done ++ x ∷ []) rest′
-      unfolding repeated after
-      next-read q = record { left = part .left - 1; count = rw length-append (omega arith); same = one-more ∙ rw q refl }
 
 -- ---- the ways out of a row
 

@@ -1,10 +1,10 @@
 -- Laws of readers: how they are taken apart and put together, and how an element's reader is repeated.
-use Prim.Native.Nat.{ℕ, zero, suc}
+use Prim.Native.Nat.{ℕ, zero, suc, _+_, _-_, _≤_, _<_}
 use native.Mathlib.Omega.{arith}
 use mathlib.Core.Path.{_≡_, refl, sym, ap, _∙_, subst}
 use mathlib.Core.Bool.{Bool, true, false, cond}
 use mathlib.Core.List.{List, [], _∷_, _++_, append-nil, append-assoc}
-use lib.ListN.{length}
+use lib.ListN.{length, length-append}
 use lib.Seq.{append-snoc}
 use lib.Dec.{ltb}
 use Rattle.model.specs.Lists.{each, isEmpty}
@@ -158,3 +158,32 @@ file-is-exact {A} {reader} {write} n reads bytes-written = (
   (λ x g. (bytes-written x, rw (rw append-nil at (reads .written [] x [] g)) refl)),
   λ bytes x e h. front-whole (reads .read [] bytes (whole-gives n reader bytes h) .1) e,
 )
+
+-- ---- elements, read one by one
+
+-- of n elements, `done` were read, and `rest` is left of the bytes
+pub record PartRead {A : Type 0} (one : List A → Reader A) (n : ℕ) (bytes : List ℕ) (done : List A) (rest : List ℕ) : Type 0 where
+  pub left : ℕ
+  pub count : length done + left ≡ n
+  pub same : repeated one n [] bytes ≡ repeated one left done rest
+
+module _ {A : Type 0} {one : List A → Reader A} {n : ℕ} {bytes : List ℕ} where
+  pub none-read : PartRead one n bytes [] bytes
+  none-read = record { left = n; count = omega arith; same = refl }
+
+  module _ {done : List A} {rest : List ℕ} (part : PartRead one n bytes done rest) where
+    pub all-read : n ≤ length done → repeated one n [] bytes ≡ gives (done, rest)
+    unfolding repeated
+    all-read h = let none : part .left ≡ 0 = omega arith in part .same ∙ rw none refl
+
+    module _ (more : length done < n) where
+      one-more : repeated one n [] bytes ≡ repeated one (suc (part .left - 1)) done rest
+      one-more = let e : part .left ≡ suc (part .left - 1) = omega arith in rw e at (part .same)
+
+      pub next-refused : {m : ℕ} → one done rest ≡ refused m → repeated one n [] bytes ≡ refused m
+      unfolding repeated after
+      next-refused q = one-more ∙ rw q refl
+
+      pub next-read : {x : A} {rest′ : List ℕ} → one done rest ≡ gives (x, rest′) → PartRead one n bytes (done ++ x ∷ []) rest′
+      unfolding repeated after
+      next-read q = record { left = part .left - 1; count = rw length-append (omega arith); same = one-more ∙ rw q refl }

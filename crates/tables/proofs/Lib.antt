@@ -8,3 +8,4 @@ pub mod Images
 pub mod Entries
 pub mod Reduced
 pub mod Declared
+pub mod NumberReplies

@@ -23,7 +23,9 @@ use Rattle.tables.specs.NumberAt.{numberAt}
 use Rattle.tables.specs.SiteWords.{declaredEntries}
 use Rattle.building.specs.Image.{imageWords}
 use Rattle.tables.specs.declared.number.Number.the-variants.{Value}
-use Rattle.building.proofs.Reading.{PartRead, none-read, all-read, next-refused, next-read, no-term, wide-term, term-below, no-count, many-rows, declaration-given, number-small}
+use Rattle.building.proofs.Reading.{no-term, wide-term, term-below, no-count, many-rows, declaration-given}
+use Rattle.model.proofs.Readers.{PartRead, none-read, all-read, next-refused, next-read}
+use Rattle.tables.proofs.NumberReplies.{number-small}
 use Rattle.building.proofs.Declarations.{rows-room}
 use Rattle.building.proofs.Writing.{declaration-written}
 use Rattle.building.proofs.site_reader.read_declarations.Statement.{statement}
