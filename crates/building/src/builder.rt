@@ -12,13 +12,11 @@ use crate::site_reader::read_site;
 use model::answer::Answer;
 use tables::kinds::KINDS;
 use tables::kinds::is_stored;
+use tables::limits::MOST_THRESHOLD;
 use tables::operands::operands_at;
 use tables::operands::rows_start;
 use tables::semi_join_count::count_semi_join;
 use tables::semi_join_write::write_semi_join;
-
-// The greatest threshold.
-const MOST_THRESHOLD: u32 = 1000;
 
 // Where the stored tables' rows begin.
 fn stored_start(image: &[u32], count: usize) -> usize

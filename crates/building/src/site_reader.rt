@@ -9,19 +9,16 @@ ghost use Rattle.model.specs.SiteFile.{declaration, row, tables, readSite};
 ghost use Rattle.model.specs.Store.{rowsStart, tableWords, vpWords};
 ghost use Rattle.tables.specs.SiteWords.{declaredEntries, declaredIn, declaredRows};
 ghost use Rattle.building.specs.Image.{imageWords, TakenAs, DeclaredIn, SiteReadAs};
+use tables::limits::MOST_PREDICATES;
+use tables::limits::MOST_ROWS;
+use tables::limits::MOST_TERM;
 use tables::number::Number;
 use tables::number::read_number;
 use tables::operands::rows_start;
-use tables::row_order::MOST_TERM;
 use tables::row_order::row_before;
 
 // The words of an image: the front of a store, up to where the stored tables' rows would begin, for the largest site.
 pub const IMAGE_WORDS: usize = 3635;
-
-// The most predicates, the most rows of all predicates together.
-pub const MOST_PREDICATES: u32 = 16;
-
-pub const MOST_ROWS: u32 = 1024;
 
 // How far bytes were taken, or the refusal's number.
 pub enum Taken {
@@ -35,7 +32,7 @@ pub fn read_declarations(s: &[u8], at: usize, count: usize, image: &mut [u32]) -
     ensures { λ r. ⌜ TakenAs (repeated declaration count [] (drop at (now (s .entry)))) (λ ds. now (image .exit) ≡ sets (now (image .entry)) 3 (declaredEntries (rowsStart count) ds)) (now (s .entry)) r ⌝ }
 {
     let mut next = at;
-    let mut total: u32 = 0;
+    let mut total: usize = 0;
     let mut here = rows_start(count);
     let mut last: u32 = 0;
     for i in 0..count {
@@ -51,14 +48,15 @@ pub fn read_declarations(s: &[u8], at: usize, count: usize, image: &mut [u32]) -
         let Number::Value(rows, after) = read_number(s, middle) else {
             return Taken::Refused(2);
         };
-        if MOST_ROWS < total + rows {
+        let n = rows as usize;
+        if MOST_ROWS < total + n {
             return Taken::Refused(5);
         }
         image[3 + 3 * i] = term;
         image[3 + 3 * i + 1] = rows;
         image[3 + 3 * i + 2] = here as u32;
-        total += rows;
-        here += 2 * (rows as usize);
+        total += n;
+        here += 2 * n;
         last = term;
         next = after;
     }
@@ -134,10 +132,10 @@ pub fn read_site(s: &[u8], image: &mut [u32]) -> SiteRead
     let Number::Value(p, at) = read_number(s, 0) else {
         return SiteRead::Refused(2);
     };
-    if MOST_PREDICATES < p {
+    let count = p as usize;
+    if MOST_PREDICATES < count {
         return SiteRead::Refused(3);
     }
-    let count = p as usize;
     match read_declarations(s, at, count, image) {
         Taken::Refused(number) => SiteRead::Refused(number),
         Taken::At(next) => read_rest(s, next, count, image),

@@ -7,12 +7,10 @@ ghost use Rattle.model.specs.Site.{mostPredicates, rowsProper};
 ghost use Rattle.model.specs.Store.{rowsStart};
 ghost use Rattle.tables.specs.SiteWords.{declaredRows, entriesProper, siteIn};
 ghost use Rattle.checking.specs.declared.entries.Place.the-variants.{At, Wrong};
+use tables::limits::MOST_ROWS;
+use tables::limits::MOST_TERM;
 use tables::operands::rows_start;
-use tables::row_order::MOST_TERM;
 use tables::row_order::rows_proper;
-
-// The most rows of all predicates together.
-const MOST_ROWS: usize = 1024;
 
 // How far words are as they should be, or that they are not.
 pub enum Place {

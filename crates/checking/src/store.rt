@@ -4,12 +4,9 @@ use crate::entries::Place;
 use crate::entries::rows_end;
 use crate::entries::tables_proper;
 use crate::semi_joins::semi_joins_hold;
+use tables::limits::MOST_PREDICATES;
+use tables::limits::MOST_THRESHOLD;
 use tables::operands::rows_start;
-
-// The greatest threshold, and the most predicates.
-const MOST_THRESHOLD: usize = 1000;
-
-const MOST_PREDICATES: usize = 16;
 
 // Question 10.
 pub fn is_store(w: &[u32]) -> bool
@@ -19,7 +16,7 @@ pub fn is_store(w: &[u32]) -> bool
         return false;
     }
     let count = w[0] as usize;
-    let t = w[1] as usize;
+    let t = w[1];
     let used = w[2] as usize;
     if MOST_PREDICATES < count {
         return false;
@@ -39,5 +36,5 @@ pub fn is_store(w: &[u32]) -> bool
     if used < first {
         return false;
     }
-    tables_proper(w, count) && semi_joins_hold(t, w, count, first, used)
+    tables_proper(w, count) && semi_joins_hold(t as usize, w, count, first, used)
 }

@@ -1,5 +1,6 @@
 // Numbers in bytes, and rows and semi-joins in words.
 pub mod kinds;
+pub mod limits;
 pub mod number;
 pub mod operands;
 pub mod row_order;

@@ -3,9 +3,7 @@ ghost use Prim.Native.Nat.{_≤_, _+_, _*_};
 ghost use lib.ListN.{length, drop};
 ghost use Rattle.model.specs.Site.{rowBefore, rowsProper};
 ghost use Rattle.model.specs.Store.{rowsIn};
-
-// The greatest term.
-pub const MOST_TERM: u32 = 65535;
+use crate::limits::MOST_TERM;
 
 // The row (s, o) comes before the row (t, p).
 pub fn row_before(s: u32, o: u32, t: u32, p: u32) -> bool

@@ -13,7 +13,6 @@ use borrow.Author.Needs.{needs}
 use borrow.Author.Tests.{leb-true, leb-false, le-leb, lt-leb, lt-ltb, le-ltb}
 use Rattle.model.specs.Lists.{sum, aboveLast}
 use Rattle.model.specs.Reader.{refused, repeated}
-use Rattle.model.specs.Numbers.{numberLimit}
 use Rattle.model.specs.Site.{mostRows}
 use Rattle.model.specs.SiteFile.{Declaration, declaration}
 use Rattle.model.specs.Store.{rowsStart}
@@ -25,7 +24,6 @@ use Rattle.building.specs.Image.{imageWords}
 use Rattle.tables.specs.declared.number.Number.the-variants.{Value}
 use Rattle.building.proofs.Reading.{no-term, wide-term, term-below, no-count, many-rows, declaration-given}
 use Rattle.model.proofs.Readers.{PartRead, none-read, all-read, next-refused, next-read}
-use Rattle.tables.proofs.NumberReplies.{number-small}
 use Rattle.building.proofs.Declarations.{rows-room}
 use Rattle.building.proofs.Writing.{declaration-written}
 use Rattle.building.proofs.site_reader.read_declarations.Statement.{statement}
@@ -74,12 +72,6 @@ term-above j =
 rows-are : (k : tie.After-known-told2 Inv-loop μ-loop) → let o = k .before .before .before .before .before .before in
     numberAt (o .before .before .before .before .before .before .before .before .before .args .s .now) (o .before .term .given .0 .1 .0) ≡ Value (k .before .rows .given .0 .0) (k .before .rows .given .0 .1 .0)
 rows-are k = sym (k .before .before .before .read-number2 .ensures) ∙ k .before .rows .given .1
-
-rows-small : (k : tie.After-known-told2 Inv-loop μ-loop) → k .before .rows .given .0 .0 < numberLimit
-rows-small k =
-    let o = k .before .before .before .before .before .before in
-    let bytes = o .before .before .before .before .before .before .before .before in
-    number-small _ _ (λ i. bytes .shared-slice-known .given i .fits) (rows-are k)
 
 rows-start-requires : tie.Need-rows-start-requires Inv-loop μ-loop
 rows-start-requires c κs = search needs
@@ -154,8 +146,11 @@ returns-4 c =
     let l = k .before .before .before .before in
     rw (refusal l (no-count _ _ _ (term-is k) (le-leb _ _ (j .before .if1 .left)) (term-above j) (sym (c .before .before .read-number2 .ensures) ∙ c .enum-told2 .given .1))) refl
 
+cast-n : tie.Need-cast-n Inv-loop μ-loop
+cast-n c = search needs
+
 add-if4 : tie.Need-add-if4 Inv-loop μ-loop
-add-if4 c = omega (arith, rows-small c)
+add-if4 c = search needs
 
 same-length-5 : tie.Need-same-length-5 Inv-loop μ-loop
 same-length-5 c = search needs
@@ -215,9 +210,6 @@ slice-write-image-3 c = simp length-set (omega arith)
 
 add-total : tie.Need-add-total Inv-loop μ-loop
 add-total c = search needs
-
-cast-here : tie.Need-cast-here Inv-loop μ-loop
-cast-here c = search needs
 
 mul-here : tie.Need-mul-here Inv-loop μ-loop
 mul-here c = search needs
@@ -281,6 +273,7 @@ read-declarations-spec =
     enum-told-2
     same-length-4
     returns-4
+    cast-n
     add-if4
     same-length-5
     returns-5
@@ -300,7 +293,6 @@ read-declarations-spec =
     mul-image-6
     slice-write-image-3
     add-total
-    cast-here
     mul-here
     add-here
     add-i

@@ -24,11 +24,11 @@ enum-told c = search needs
 returns : tie.Need-returns
 returns c = rw (no-predicates _ (sym (c .before .before .read-number .ensures) ∙ c .enum-told .given .1)) refl
 
-returns-2 : tie.Need-returns-2
-returns-2 c = rw (many-predicates _ (count-is (c .before)) (lt-leb _ _ (c .if1 .taken))) refl
-
 cast-count : tie.Need-cast-count
 cast-count c = search needs
+
+returns-2 : tie.Need-returns-2
+returns-2 c = rw (many-predicates _ (count-is (c .before)) (lt-leb _ _ (c .if1 .taken))) refl
 
 read-declarations-requires : tie.Need-read-declarations-requires
 read-declarations-requires c κs = search needs
@@ -82,8 +82,8 @@ read-site-spec =
     enum-known-p
     enum-told
     returns
-    returns-2
     cast-count
+    returns-2
     read-declarations-requires
     enum-known-number
     enum-known-next

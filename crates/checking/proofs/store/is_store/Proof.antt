@@ -40,9 +40,6 @@ cast-count c = fits-widen tt (c .shared-slice-known2 .given _)
 shared-slice-read-t : tie.Need-shared-slice-read-t
 shared-slice-read-t c = search needs
 
-cast-t : tie.Need-cast-t
-cast-t c = fits-widen tt (c .shared-slice-known3 .given _)
-
 shared-slice-read-used : tie.Need-shared-slice-read-used
 shared-slice-read-used c = search needs
 
@@ -100,6 +97,9 @@ asked c = record {
 tables-proper-requires : tie.Need-tables-proper-requires
 tables-proper-requires c κs = let x = asked c in (x .few, x .entries, omega (arith, x .rows, x .inside))
 
+cast-semi-joins-hold : tie.Need-cast-semi-joins-hold
+cast-semi-joins-hold c = search needs
+
 semi-joins-hold-requires : tie.Need-semi-joins-hold-requires
 semi-joins-hold-requires c κs =
     let before = c .before .before in
@@ -129,7 +129,6 @@ is-store-spec =
     shared-slice-read-count
     cast-count
     shared-slice-read-t
-    cast-t
     shared-slice-read-used
     cast-used
     returns-2
@@ -143,6 +142,7 @@ is-store-spec =
     returns-6
     returns-7
     tables-proper-requires
+    cast-semi-joins-hold
     semi-joins-hold-requires
     returns-8
     returns-9)
