@@ -2,23 +2,21 @@
 use Prim.Native.Nat.{ℕ, suc, _+_, _-_, _*_, _<_, _≤_}
 use native.Mathlib.Omega.{arith}
 use mathlib.Core.Path.{_≡_, refl, sym, ap, _∙_}
-use mathlib.Core.Bool.{true, false, _&&_}
+use mathlib.Core.Bool.{true, false}
 use mathlib.Core.Option.{none}
 use mathlib.Core.List.{List, [], _∷_, _++_, map}
 use lib.ListN.{length, getD, drop}
 use lib.Seq.{drop-drop, getD-drop}
 use lib.Dec.{ltb, leb}
-use borrow.Author.Tests.{leb-true}
-use Rattle.model.specs.Lists.{all, sum, ascends, aboveLast}
+use Rattle.model.specs.Lists.{sum, aboveLast}
 use Rattle.model.specs.Reader.{Reply, refused, gives, after, ask, repeated, wholeFile, allRead}
 use Rattle.model.specs.Numbers.{isTerm}
 use Rattle.model.specs.Site.{Row, rowBefore, Site, mostPredicates, mostRows, rowTotal}
 use Rattle.model.specs.SiteFile.{Declaration, declaration, row, tables, siteFile, readSite}
-use Rattle.model.proofs.Booleans.{and-cases}
 use Rattle.model.proofs.Growing.{sum-snoc}
 use Rattle.model.proofs.Readers.{repeated-read}
 use Rattle.tables.proofs.NumberReplies.{number-bad, number-value}
-use Rattle.model.proofs.SiteFile.{rows-grow, row-reads, declared-grow, declaration-reads}
+use Rattle.model.proofs.SiteFile.{rows-grow, row-reads, declared-few, declared-grow, declaration-reads}
 use Rattle.tables.specs.NumberAt.{numberAt}
 use Rattle.tables.specs.SiteWords.{declaredIn, declaredRows}
 use Rattle.building.specs.Image.{TakenAs}
@@ -109,8 +107,7 @@ pub declarations-good : (n : ℕ) (bytes : List ℕ) {ds : List Declaration} {re
     → (length ds ≡ n) × (sum (λ d. d .1) ds ≤ mostRows)
 declarations-good n bytes {ds} e =
     let r = repeated-read declaration-reads declared-grow n bytes e in
-    let terms = map (λ d. d .0) ds in
-    (r .0, leb-true _ _ (and-cases (all isTerm terms && ascends ltb terms) _ (r .1) .1))
+    (r .0, declared-few ds (r .1))
 
 -- ---- the tables of the entries in an image
 

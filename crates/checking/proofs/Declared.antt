@@ -5,20 +5,20 @@ use native.Mathlib.Nat.{add-zero, zero-add, suc-add}
 use native.Mathlib.Numerals.{add-one, add-two}
 use mathlib.Core.Path.{_≡_, refl, sym, ap, _∙_, subst}
 use mathlib.Core.Logic.{_⊎_, ⊎-elim}
-use mathlib.Core.Bool.{true, false, _&&_, and-false}
+use mathlib.Core.Bool.{true, false, and-false}
 use mathlib.Core.List.{List, [], _∷_, _++_, map, map-append}
 use lib.ListN.{length, getD, take, drop}
 use lib.Seq.{drop-cons, drop-drop, getD-drop, getD-take, take-add}
-use lib.Dec.{ltb, leb}
-use borrow.Author.Tests.{leb-true, le-leb, lt-leb, le-ltb, lt-ltb}
-use Rattle.model.specs.Lists.{all, sum, ascends, aboveLast}
-use Rattle.model.specs.Numbers.{mostTerm, isTerm}
+use lib.Dec.{ltb}
+use borrow.Author.Tests.{le-leb, lt-leb, le-ltb, lt-ltb}
+use Rattle.model.specs.Lists.{sum, aboveLast}
+use Rattle.model.specs.Numbers.{mostTerm}
 use Rattle.model.specs.Site.{mostRows}
-use Rattle.model.specs.SiteFile.{Declaration}
+use Rattle.model.specs.SiteFile.{Declaration, declaredProper}
 use Rattle.model.specs.Store.{rowsStart}
 use Rattle.model.proofs.Booleans.{not-both, to-false, and-cases, and-make}
 use Rattle.model.proofs.Growing.{longer, passed-inside, above-snoc, sum-snoc}
-use Rattle.model.proofs.SiteFile.{declaredProper, declarationTest, declared-grow}
+use Rattle.model.proofs.SiteFile.{declared-few, declarationTest, declared-grow}
 use Rattle.model.proofs.Stores.{same-words, words-same}
 use Rattle.tables.proofs.Declared.{declared-snoc}
 use Rattle.tables.specs.SiteWords.{declaredEntries, declaredIn, declaredRows, entriesProper}
@@ -98,10 +98,7 @@ all-passed w count i whole proper stand =
 
 -- the rows of all are within the limit
 pub few-rows : (w : List ℕ) (count : ℕ) → entriesProper count w ≡ true → declaredRows count (drop 3 w) ≤ mostRows
-few-rows w count proper =
-    let terms = map (λ d. d .0) (declaredIn count (drop 3 w)) in
-    let total = declaredRows count (drop 3 w) in
-    leb-true total mostRows (and-cases (all isTerm terms && ascends ltb terms) (leb total mostRows) (halves w count proper .0) .1)
+few-rows w count proper = declared-few (declaredIn count (drop 3 w)) (halves w count proper .0)
 
 -- ---- entry i of count
 

@@ -10,13 +10,13 @@ use lib.Seq.{length-take-le, drop-cons, take-at, take-add}
 use lib.Dec.{leb}
 use borrow.Author.Tests.{leb-true, le-leb}
 use Rattle.model.specs.Lists.{all, sum, sameWords}
-use Rattle.model.specs.SiteFile.{Declaration, declarationOf}
+use Rattle.model.specs.SiteFile.{Declaration, declaredProper, declarationOf}
 use Rattle.model.specs.Site.{Site, isSite, rowTotal, predicatesProper, rowsProper, mostPredicates, mostRows}
 use Rattle.model.specs.Tables.{kindCount, mostThreshold}
 use Rattle.model.specs.Store.{semiJoins, tableWords, vpEntries, semiJoinEntries, rowsStart, storedStart, vpWords, keptWords, layout, wordsUsed, Holds, rowsIn, tablesIn, decoded, isStoreOf}
 use Rattle.model.proofs.Booleans.{and-cases, and-make, bool-ext}
 use Rattle.model.proofs.Partition.{proper}
-use Rattle.model.proofs.SiteFile.{declaredProper, declared-site, sum-map}
+use Rattle.model.proofs.SiteFile.{declared-site, sum-map}
 use Rattle.model.proofs.Blocks.{Block, block-at, longer-block, drop-block, take-block, joined-block}
 use Rattle.model.proofs.StoreLayout.{length-table, length-all, length-vp-entries, length-semi-join-entries, front, length-before-kept, layout-used, length-layout, layout-parts, vp-entries-block}
 use Rattle.model.proofs.Stores.{same-words, words-same, first-words}

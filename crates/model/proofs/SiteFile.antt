@@ -1,5 +1,5 @@
 -- The site file: every site that is read is proper, what is written is read back, and what is accepted is what is written.
-use Prim.Native.Nat.{ℕ, _+_}
+use Prim.Native.Nat.{ℕ, _+_, _≤_}
 use native.Mathlib.Omega.{arith}
 use mathlib.Core.Path.{_≡_, refl, sym, ap, _∙_}
 use mathlib.Core.Bool.{Bool, true, _&&_}
@@ -12,7 +12,7 @@ use Rattle.model.specs.Lists.{all, each, sum, ascends, aboveLast}
 use Rattle.model.specs.Reader.{gives, after, ask, repeated}
 use Rattle.model.specs.Numbers.{areBytes, isTerm, numberBytes}
 use Rattle.model.specs.Site.{Row, rowBefore, Table, Site, mostPredicates, mostRows, rowTotal, predicatesProper, rowsProper, isSite}
-use Rattle.model.specs.SiteFile.{Declaration, declaration, row, tables, siteFile, readSite, declarationBytes, rowBytes, declarationOf, siteBytes}
+use Rattle.model.specs.SiteFile.{Declaration, declaredTerms, declaredTotal, declaredProper, declaration, row, tables, siteFile, readSite, declarationBytes, rowBytes, declarationOf, siteBytes}
 use Rattle.model.proofs.Booleans.{and-cases, and-make}
 use Rattle.model.proofs.Growing.{Grows, all-grows, ascends-grows, both-grow, map-grows, sum-grows}
 use Rattle.model.proofs.Readers.{after-gives, ask-gives, Front, front-none, front-then, Reads, returned, repeated-read, repeated-written, FileIsExact, file-is-exact}
@@ -56,17 +56,12 @@ row-reads = record {
 
 -- ---- declarations
 
-abbrev declaredTerms : List Declaration → List ℕ
-declaredTerms ds = map (λ d. d .0) ds
-
-abbrev declaredRows : List Declaration → ℕ
-declaredRows ds = sum (λ d. d .1) ds
-
-abbrev pub declaredProper : List Declaration → Bool
-declaredProper ds = all isTerm (declaredTerms ds) && ascends ltb (declaredTerms ds) && leb (declaredRows ds) mostRows
+-- the rows of proper declarations are within the limit
+pub declared-few : (ds : List Declaration) → declaredProper ds ≡ true → declaredTotal ds ≤ mostRows
+declared-few ds h = leb-true _ _ (and-cases (all isTerm (declaredTerms ds) && ascends ltb (declaredTerms ds)) _ h .1)
 
 abbrev pub declarationTest : List Declaration → Declaration → Bool
-declarationTest done d = isTerm (d .0) && aboveLast ltb (declaredTerms done) (d .0) && leb (declaredRows done + d .1) mostRows
+declarationTest done d = isTerm (d .0) && aboveLast ltb (declaredTerms done) (d .0) && leb (declaredTotal done + d .1) mostRows
 
 pub declared-grow : Grows declaredProper declarationTest
 declared-grow = both-grow (map-grows (λ d. d .0) (both-grow (all-grows isTerm) (ascends-grows ltb))) (sum-grows (λ d. d .1) mostRows)
@@ -78,13 +73,13 @@ declaration-reads = record {
       let p = number-gives 2 bytes _ h in
       let a = ask-gives 4 (isTerm (p .0) && aboveLast ltb (declaredTerms done) (p .0)) _ (p .3) in
       let c = number-gives 2 (p .1) _ (a .1) in
-      let b = ask-gives 5 (leb (declaredRows done + c .0) mostRows) _ (c .3) in
+      let b = ask-gives 5 (leb (declaredTotal done + c .0) mostRows) _ (c .3) in
       returned (declarationTest done) declarationBytes (b .1) (and-make (a .0) (b .0)) (front-then (p .2) (c .2));
   written = λ done d rest t.
       let above = aboveLast ltb (declaredTerms done) (d .0) in
-      let c = and-cases (isTerm (d .0) && above) (leb (declaredRows done + d .1) mostRows) t in
+      let c = and-cases (isTerm (d .0) && above) (leb (declaredTotal done + d .1) mostRows) t in
       let p = and-cases (isTerm (d .0)) above (c .0) in
-      let l = leb-true (declaredRows done + d .1) mostRows (c .1) in
+      let l = leb-true (declaredTotal done + d .1) mostRows (c .1) in
       rw (append-assoc, number-written 2 (d .0) _ (term-fits (d .0) (p .0)), c .0, number-written 2 (d .1) _ (omega arith), c .1) refl;
 }
 

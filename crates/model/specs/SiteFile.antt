@@ -1,10 +1,10 @@
 -- The site file: P; P pairs of predicate term and row count; then each predicate's rows. Questions 2 to 8.
 use Prim.Native.Nat.{ℕ, _+_}
-use mathlib.Core.Bool.{_&&_}
+use mathlib.Core.Bool.{Bool, _&&_}
 use mathlib.Core.List.{List, [], _∷_, _++_, map}
 use lib.ListN.{length}
 use lib.Dec.{ltb, leb}
-use Rattle.model.specs.Lists.{each, sum, aboveLast}
+use Rattle.model.specs.Lists.{all, each, sum, ascends, aboveLast}
 use Rattle.model.specs.Reader.{Reply, Reader, _>>=_, _>>_, return, ask, wholeFile, repeated}
 use Rattle.model.specs.Numbers.{isTerm, number, numberBytes}
 use Rattle.model.specs.Site.{Row, rowBefore, Table, Site, mostPredicates, mostRows}
@@ -13,13 +13,23 @@ use Rattle.model.specs.Site.{Row, rowBefore, Table, Site, mostPredicates
 abbrev pub Declaration : Type 0
 Declaration = ℕ × ℕ
 
+abbrev pub declaredTerms : List Declaration → List ℕ
+declaredTerms ds = map (λ d. d .0) ds
+
+abbrev pub declaredTotal : List Declaration → ℕ
+declaredTotal ds = sum (λ d. d .1) ds
+
+-- the predicates are terms, strictly ascending, and the rows are within the limit
+abbrev pub declaredProper : List Declaration → Bool
+declaredProper ds = all isTerm (declaredTerms ds) && ascends ltb (declaredTerms ds) && leb (declaredTotal ds) mostRows
+
 -- a declaration, with those before it
 unfoldable pub declaration : List Declaration → Reader Declaration
 declaration done = do
   p ← number 2
-  ask 4 (isTerm p && aboveLast ltb (map (λ d. d .0) done) p)
+  ask 4 (isTerm p && aboveLast ltb (declaredTerms done) p)
   n ← number 2
-  ask 5 (leb (sum (λ d. d .1) done + n) mostRows)
+  ask 5 (leb (declaredTotal done + n) mostRows)
   return (p, n)
 
 -- a row of a table, with those before it

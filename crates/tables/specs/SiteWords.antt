@@ -2,13 +2,11 @@
 use Prim.Native.Nat.{ℕ, zero, suc, _+_, _*_, _≤_, _<_}
 use mathlib.Core.Path.{_≡_}
 use mathlib.Core.Bool.{Bool, true, _&&_}
-use mathlib.Core.List.{List, [], _∷_, map}
+use mathlib.Core.List.{List, [], _∷_}
 use lib.ListN.{length, getD, take, drop}
-use lib.Dec.{ltb, leb}
-use Rattle.model.specs.Lists.{all, sum, ascends, sameWords}
-use Rattle.model.specs.Numbers.{isTerm}
-use Rattle.model.specs.SiteFile.{Declaration}
-use Rattle.model.specs.Site.{Site, isSite, mostRows}
+use Rattle.model.specs.Lists.{sameWords}
+use Rattle.model.specs.SiteFile.{Declaration, declaredTotal, declaredProper}
+use Rattle.model.specs.Site.{Site, isSite}
 use Rattle.model.specs.Tables.{semiJoin, kindCount}
 use Rattle.model.specs.Store.{Reduced, semiJoins, rowsStart, rowsIn, tablesIn, storedStart, vpEntries, vpWords}
 use Rattle.tables.specs.Columns.{kindOfColumns}
@@ -28,14 +26,13 @@ declaredIn (suc k) entries = (getD entries 0 0, getD entries 1 0) ∷ declaredIn
 
 -- how many rows k entries declare
 abbrev pub declaredRows : ℕ → List ℕ → ℕ
-declaredRows k entries = sum (λ d. d .1) (declaredIn k entries)
+declaredRows k entries = declaredTotal (declaredIn k entries)
 
 -- the entries of k predicates: terms that ascend, rows within the limit, and each start where the rows before end
 unfoldable pub entriesProper : ℕ → List ℕ → Bool
 entriesProper k words =
     let ds = declaredIn k (drop 3 words) in
-    (all isTerm (map (λ d. d .0) ds) && ascends ltb (map (λ d. d .0) ds) && leb (sum (λ d. d .1) ds) mostRows)
-    && sameWords (take (3 * k) (drop 3 words)) (declaredEntries (rowsStart k) ds)
+    declaredProper ds && sameWords (take (3 * k) (drop 3 words)) (declaredEntries (rowsStart k) ds)
 
 -- ---- the site
 

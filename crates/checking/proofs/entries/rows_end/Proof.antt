@@ -9,9 +9,9 @@ use mir.Facts.{fits-widen}
 use borrow.Author.Needs.{needs}
 use borrow.Author.Tests.{leb-true, leb-false}
 use Rattle.model.specs.Site.{mostRows}
+use Rattle.model.specs.SiteFile.{declaredProper}
 use Rattle.model.specs.Store.{rowsStart}
 use Rattle.model.proofs.Booleans.{to-false}
-use Rattle.model.proofs.SiteFile.{declaredProper}
 use Rattle.tables.specs.SiteWords.{declaredIn, declaredRows}
 use Rattle.checking.proofs.Declared.{EntriesStand, not-term, not-ascending, too-many-rows, start-proper, entry-passes, one-stands, rows-more, all-passed}
 use Rattle.checking.proofs.entries.rows_end.Statement.{statement}
