@@ -37,13 +37,13 @@ declared-back here (t ∷ ts) rest = ap (λ (ds : List Declaration). declaration
 
 -- ---- what a store holds
 
-abbrev siteOf : List ℕ → Site
+abbrev pub siteOf : List ℕ → Site
 siteOf w = decoded w .site
 
-abbrev thresholdOf : List ℕ → ℕ
+abbrev pub thresholdOf : List ℕ → ℕ
 thresholdOf w = getD w 1 0
 
-store-holds : (w : List ℕ) → isStoreOf (decoded w) w ≡ true → Holds w (thresholdOf w) (siteOf w)
+pub store-holds : (w : List ℕ) → isStoreOf (decoded w) w ≡ true → Holds w (thresholdOf w) (siteOf w)
 unfolding isStoreOf decoded
 store-holds w e =
     let t = thresholdOf w in
@@ -57,16 +57,16 @@ holds-store w h =
     and-make (and-make (le-leb (thresholdOf w) mostThreshold (h .threshold)) (h .proper)) (rw (h .same) (words-same (layout (thresholdOf w) (siteOf w))))
 
 module _ {w : List ℕ} {t : ℕ} {site : Site} (h : Holds w t site) where
-  whole : w ≡ layout t site ++ drop (wordsUsed w) w
+  pub whole : w ≡ layout t site ++ drop (wordsUsed w) w
   whole = sym (take-append-drop (wordsUsed w) w) ∙ ap (λ (m : List ℕ). m ++ drop (wordsUsed w) w) (h .same)
 
-  predicates : getD w 0 0 ≡ length site
+  pub predicates : getD w 0 0 ≡ length site
   predicates = ap (λ (m : List ℕ). getD m 0 0) whole ∙ first-words t site _ .0
 
-  used : wordsUsed w ≡ length (layout t site)
+  pub used : wordsUsed w ≡ length (layout t site)
   used = ap wordsUsed whole ∙ first-words t site _ .2 ∙ layout-used t site
 
-  inside : wordsUsed w ≤ length w
+  pub inside : wordsUsed w ≤ length w
   inside = let e = length-take (wordsUsed w) w in let f = ap length (h .same) in let g = used in omega arith
 
   entries : Block w 3 (vpEntries (rowsStart (length site)) site)

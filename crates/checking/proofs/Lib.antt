@@ -4,3 +4,4 @@ pub mod Tables
 pub mod Join
 pub mod Joined
 pub mod Decoding
+pub mod Lookups

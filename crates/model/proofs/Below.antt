@@ -4,7 +4,7 @@ use native.Mathlib.Omega.{arith}
 use mathlib.Core.Path.{_≡_, refl, ap, _∙_}
 use mathlib.Core.Logic.{_⊎_, inl, inr, _≢_}
 use mathlib.Core.Bool.{Bool, true, false}
-use mathlib.Core.List.{_∷_, map, List·Memᴰ·head, List·Memᴰ·tail, List·Memᴰ·not-nil, List·Memᴰ·cases-cons}
+use mathlib.Core.List.{[], _∷_, _++_, map, List·Memᴰ·head, List·Memᴰ·tail, List·Memᴰ·not-nil, List·Memᴰ·cases-cons}
 use lib.ListN.{length, getD}
 use lib.Dec.{eqb, ltb}
 use borrow.Author.Tests.{eqb-true, eqb-false, lt-ltb}
@@ -46,3 +46,11 @@ pub countUp-ascends : (a k : ℕ) → ascends ltb (countUp a k) ≡ true
 countUp-ascends a zero = refl
 countUp-ascends a (suc k) =
     ascends-cons ltb a (countUp (suc a) k) (λ y m. lt-ltb a y (from-countUp (suc a) k m .0)) (countUp-ascends (suc a) k)
+
+countUp-last : (a k : ℕ) → countUp a (suc k) ≡ countUp a k ++ (a + k) ∷ []
+countUp-last a zero = ap (λ n. n ∷ []) (omega arith)
+countUp-last a (suc k) = ap (λ l. a ∷ l) (countUp-last (suc a) k ∙ ap (λ n. countUp (suc a) k ++ n ∷ []) (omega arith))
+
+-- one number more
+pub below-last : (k : ℕ) → below (suc k) ≡ below k ++ k ∷ []
+below-last k = countUp-last 0 k ∙ ap (λ n. below k ++ n ∷ []) (omega arith)

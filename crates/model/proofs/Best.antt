@@ -4,7 +4,7 @@ use native.Mathlib.Omega.{arith}
 use mathlib.Core.Path.{_≡_, refl, sym, _∙_, subst}
 use mathlib.Core.Logic.{_⊎_, inl, inr}
 use mathlib.Core.Bool.{Bool, true, false, cond, _&&_, _||_}
-use mathlib.Core.List.{List, [], _∷_, List·Memᴰ·head, List·Memᴰ·tail, List·Memᴰ·not-nil, List·Memᴰ·cases-cons, List·Memᴰ·eq-of-singleton}
+use mathlib.Core.List.{List, [], _∷_, _++_, List·Memᴰ·head, List·Memᴰ·tail, List·Memᴰ·not-nil, List·Memᴰ·cases-cons, List·Memᴰ·eq-of-singleton}
 use lib.Dec.{eqb, ltb}
 use borrow.Author.Tests.{ltb-true, lt-ltb, le-ltb, eq-eqb, ne-eqb}
 use Rattle.model.specs.Lists.{_∈_, ascends}
@@ -97,6 +97,12 @@ swap-members (List·Memᴰ·tail (List·Memᴰ·tail m)) = List·Memᴰ·tail (L
 
 swap : {Before : Relation} {a b x : ℕ} {xs : List ℕ} → IsFirst Before (a ∷ b ∷ xs) x → IsFirst Before (b ∷ a ∷ xs) x
 swap f = record { member = swap-members (f .member); before = λ z m. f .before z (swap-members m) }
+
+-- one more behind a list
+pub best-last : (beats : ℕ → ℕ → Bool) (x : ℕ) (ys : List ℕ) (y : ℕ)
+    → best beats x (ys ++ y ∷ []) ≡ cond (beats y (best beats x ys)) y (best beats x ys)
+best-last beats x [] y = refl
+best-last beats x (z ∷ zs) y = best-last beats (cond (beats z x) z x) zs y
 
 -- to begin with the first of the list changes nothing
 pub best-again : (beats : ℕ → ℕ → Bool) (x : ℕ) (xs : List ℕ) → best beats x (x ∷ xs) ≡ best beats x xs

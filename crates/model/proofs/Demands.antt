@@ -11,7 +11,7 @@ use lib.Dec.{ltb, leb}
 use borrow.Author.Tests.{ltb-true, lt-ltb, leb-true}
 use Rattle.model.specs.Lists.{_∈_, ascends, each, keep, below, wordsBefore}
 use Rattle.model.specs.Reader.{gives}
-use Rattle.model.specs.Site.{Row, rowBefore, Site, isSite, IsFact}
+use Rattle.model.specs.Site.{Row, rowBefore, Site, isSite, IsFact, noTable, tableAt}
 use Rattle.model.specs.SiteFile.{readSite, siteBytes}
 use Rattle.model.specs.Tables.{vp, at, Kind, semiJoin, kindAt, kindCount, mostThreshold, isStored}
 use Rattle.model.specs.Store.{tableWords, vpEntryAt, semiJoinEntryAt, layout, wordsUsed, Holds, IsStore, Store, storeAt, storeOf}
@@ -35,7 +35,7 @@ use Rattle.model.proofs.Width.{stands, width-counts}
 use Rattle.model.proofs.Places.{not-against-itself, empty-reduced, empty-full}
 use Rattle.model.proofs.Solutions.{solutions-ascend, solutions-sound, solutions-complete}
 use Rattle.model.proofs.Equation.{join-solutions}
-use Rattle.model.proofs.StoreLayout.{noTable, tableAt, layout-used, vp-entry, semi-join-entry}
+use Rattle.model.proofs.StoreLayout.{layout-used, vp-entry, semi-join-entry}
 use Rattle.model.proofs.Stores.{store-sound, store-complete, built-holds}
 use Rattle.model.proofs.Readers.{FileIsExact}
 use Rattle.model.proofs.SiteFile.{site-file}

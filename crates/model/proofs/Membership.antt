@@ -96,6 +96,22 @@ module _ {A : Type 0} (p : A → Bool) where
       go true e = rw e refl
       go false e = e
 
+module _ {A : Type 0} (p q : A → Bool) where
+  -- tests that agree on a list
+  pub keep-same : (l : List A) → ((a : A) → a ∈ l → p a ≡ q a) → keep p l ≡ keep q l
+  keep-same [] h = refl
+  keep-same (x ∷ xs) h = rw (h x (List·Memᴰ·head refl), keep-same xs (λ a m. h a (List·Memᴰ·tail m))) refl
+
+  -- the tests one after the other
+  pub keep-keep : (l : List A) → keep q (keep p l) ≡ keep (λ x. p x && q x) l
+  keep-keep [] = refl
+  keep-keep (x ∷ xs) = go (p x) (keep-keep xs)
+    where
+      go : (b : Bool) → keep q (keep p xs) ≡ keep (λ y. p y && q y) xs
+          → keep q (cond b (x ∷ keep p xs) (keep p xs)) ≡ cond (b && q x) (x ∷ keep (λ y. p y && q y) xs) (keep (λ y. p y && q y) xs)
+      go true e = rw e refl
+      go false e = e
+
 module _ {A B : Type 0} (f : A → List B) where
   pub into-each : {y : B} {a : A} {l : List A} → a ∈ l → y ∈ f a → y ∈ each f l
   into-each {y} (List·Memᴰ·head {x} {xs} q) m = Memᴰ·append-left (each f xs) (subst (λ z. y ∈ f z) q m)

@@ -47,7 +47,7 @@ predicate-fits : (site : Site) (x : Position) → isPredicate site x ≡ true �
 predicate-fits site (Term t) e = position-fits 0 (Term t) (and-cases (isTerm t) (isDeclared site t) e .0)
 predicate-fits site (Var v) e = absurd (false≢true e)
 
-position-asks : (n : ℕ) (x : Position) → Asks (askPosition n x) (isPosition n x)
+pub position-asks : (n : ℕ) (x : Position) → Asks (askPosition n x) (isPosition n x)
 unfolding askPosition
 position-asks n (Term t) = record { as-ask = λ bytes. (15, refl) }
 position-asks n (Var v) = record { as-ask = λ bytes. (16, refl) }

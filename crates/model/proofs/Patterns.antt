@@ -52,7 +52,7 @@ abbrev pub columns : TriplePattern → List Position
 columns q = q .subject ∷ q .object ∷ []
 
 -- a position that passes has a term, a variable met before, or the next one
-position-limit : (n : ℕ) (x : Position) → isPosition n x ≡ true → n ≤ mostVariables → variablesWith n x ≤ mostVariables
+pub position-limit : (n : ℕ) (x : Position) → isPosition n x ≡ true → n ≤ mostVariables → variablesWith n x ≤ mostVariables
 position-limit n (Term t) h k = k
 position-limit n (Var v) h k = omega (arith, ltb-true v mostVariables (and-cases (ltb v mostVariables) (leb v n) h .0))
 

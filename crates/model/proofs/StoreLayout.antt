@@ -7,7 +7,7 @@ use mathlib.Core.Bool.{Bool, true, false, cond}
 use mathlib.Core.List.{List, [], _∷_, _++_, map, append-assoc, append-nil}
 use lib.ListN.{length, getD, take, drop, length-append, List·getD-map}
 use Rattle.model.specs.Lists.{each, sum}
-use Rattle.model.specs.Site.{Row, Table, Site}
+use Rattle.model.specs.Site.{Row, Table, Site, noTable, tableAt}
 use Rattle.model.specs.Tables.{Kind, kinds, kindCount, kindAt, semiJoin, isStored}
 use Rattle.model.specs.Store.{Reduced, semiJoins, isKept, kept, tableWords, vpEntries, semiJoinEntries, rowsStart, vpEntryAt, semiJoinEntryAt, storedStart, vpWords, keptWords, layout, wordsUsed}
 use Rattle.model.proofs.Blocks.{Block, element-block, block-at, inner-block, take-block, getD-block, head-block, each-block, length-each, equal-block}
@@ -81,12 +81,6 @@ semi-join-entries t here [] = refl
 semi-join-entries t here (x ∷ xs) = rw (semi-join-entries t (here + 2 * length (kept t x)) xs) refl
 
 -- ---- the semi-joins
-
-abbrev pub noTable : Table
-noTable = record { predicate = 0; rows = [] }
-
-abbrev pub tableAt : Site → ℕ → Table
-tableAt site i = getD site i noTable
 
 abbrev reduced : Table → Table → Kind → Reduced
 reduced p q k = record { full = p .rows; rows = semiJoin k (p .rows) (q .rows) }

@@ -1,8 +1,8 @@
 -- A site: the declared predicates in ascending order, each with its rows, subject and object, in ascending order.
 use Prim.Native.Nat.{ℕ}
 use mathlib.Core.Bool.{Bool, _&&_, _||_}
-use mathlib.Core.List.{List, map}
-use lib.ListN.{length}
+use mathlib.Core.List.{List, [], map}
+use lib.ListN.{length, getD}
 use lib.Dec.{eqb, ltb, leb}
 use Rattle.model.specs.Lists.{_∈_, all, any, each, sum, ascends}
 use Rattle.model.specs.Numbers.{isTerm}
@@ -73,3 +73,13 @@ isFact site f = any (sameFact f) (facts site)
 -- question 14
 abbrev pub isDeclared : Site → ℕ → Bool
 isDeclared site p = any (λ t. eqb (t .predicate) p) site
+
+-- ---- places
+
+-- no rows, for a place that the site does not have
+abbrev pub noTable : Table
+noTable = record { predicate = 0; rows = [] }
+
+-- the declared predicate at a place, and its rows
+abbrev pub tableAt : Site → ℕ → Table
+tableAt site i = getD site i noTable

@@ -7,12 +7,12 @@ use mathlib.Core.Bool.{Bool, true, false, cond}
 use mathlib.Core.List.{List, [], _∷_}
 use lib.ListN.{length, getD}
 use Rattle.model.specs.Lists.{keep}
-use Rattle.model.specs.Site.{Site, rowTotal, mostRows}
+use Rattle.model.specs.Site.{Site, rowTotal, mostRows, tableAt}
 use Rattle.model.specs.Tables.{kindCount, kindAt, semiJoin, isStored}
 use Rattle.model.specs.Store.{Reduced, isKept}
 use Rattle.model.proofs.Partition.{proper}
 use Rattle.model.proofs.Blocks.{head-block}
-use Rattle.model.proofs.StoreLayout.{tableAt, leftAt, semi-join-block}
+use Rattle.model.proofs.StoreLayout.{leftAt, semi-join-block}
 use Rattle.tables.specs.Columns.{columnOf}
 use Rattle.tables.specs.SiteWords.{siteIn, ImageOf, noReduced, reducedAt, OperandsOf}
 use Rattle.tables.proofs.Images.{table-in}
@@ -46,7 +46,7 @@ reduced-at site x h =
 
 -- ---- how many rows
 
-keep-fewer : {A : Type 0} (p : A → Bool) (l : List A) → length (keep p l) ≤ length l
+pub keep-fewer : {A : Type 0} (p : A → Bool) (l : List A) → length (keep p l) ≤ length l
 keep-fewer p [] = omega arith
 keep-fewer {A} p (x ∷ xs) = go (p x) (keep-fewer p xs)
   where
@@ -54,7 +54,7 @@ keep-fewer {A} p (x ∷ xs) = go (p x) (keep-fewer p xs)
     go true h = omega arith
     go false h = omega arith
 
-table-fewer : (site : Site) (i : ℕ) → length (tableAt site i .rows) ≤ rowTotal site
+pub table-fewer : (site : Site) (i : ℕ) → length (tableAt site i .rows) ≤ rowTotal site
 table-fewer [] i = omega arith
 table-fewer (t ∷ ts) zero = omega arith
 table-fewer (t ∷ ts) (suc i) = omega (arith, table-fewer ts i)

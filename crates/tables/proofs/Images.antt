@@ -8,12 +8,12 @@ use mathlib.Core.Bool.{true}
 use mathlib.Core.List.{List, _++_}
 use lib.ListN.{length, getD, take, drop, length-append, take-append-drop}
 use lib.Seq.{sets, length-sets}
-use Rattle.model.specs.Site.{Row, Table, Site, isSite, mostPredicates, mostRows}
+use Rattle.model.specs.Site.{Row, Table, Site, isSite, mostPredicates, mostRows, noTable, tableAt}
 use Rattle.model.specs.Tables.{kindCount}
 use Rattle.model.specs.Store.{tableWords, rowsStart, storedStart, rowsIn, tablesIn, vpWords}
 use Rattle.model.proofs.Partition.{proper}
 use Rattle.model.proofs.Blocks.{Block, element-block, drop-block, getD-block}
-use Rattle.model.proofs.StoreLayout.{length-table, entry-and-rows, vpEntry, vp-entries, noTable, tableAt}
+use Rattle.model.proofs.StoreLayout.{length-table, entry-and-rows, vpEntry, vp-entries}
 use Rattle.model.proofs.Stores.{rows-back, tables-back}
 use Rattle.tables.specs.SiteWords.{siteIn, ImageHolds, ImageOf}
 use Rattle.tables.proofs.Setting.{drop-sets, part-sets, part-block}
