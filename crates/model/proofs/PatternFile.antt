@@ -67,10 +67,10 @@ position-front : {bytes rest : List ℕ} (n : ℕ) → Front bytes (numberBytes 
 position-front n f = rw position-number f
 
 -- asked of the triple pattern behind those done
-abbrev tripleTest : Site → Pattern → TriplePattern → Bool
+abbrev pub tripleTest : Site → Pattern → TriplePattern → Bool
 tripleTest site done q = isTriplePattern site (width done) q
 
-triple-reads : (site : Site) → Reads (triplePattern site) triplePatternBytes (tripleTest site)
+pub triple-reads : (site : Site) → Reads (triplePattern site) triplePatternBytes (tripleTest site)
 unfolding triplePattern after
 triple-reads site = record {
   read = λ done bytes h.

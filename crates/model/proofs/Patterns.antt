@@ -90,15 +90,19 @@ triple-passes site n q h = go (q .predicate) refl (c .1)
     go (Var v) e k = absurd (false≢true k)
 
 module _ (site : Site) where
+  -- with a triple pattern that passes there are few variables
+  pub triple-limit : (n : ℕ) (q : TriplePattern) → isTriplePattern site n q ≡ true → n ≤ mostVariables → variables n (positions q) ≤ mostVariables
+  triple-limit n q h k =
+      let t = triple-passes site n q h in
+      let s = position-limit n (q .subject) (t .subject) k in
+      rw (t .counted) (position-limit (variablesWith n (q .subject)) (q .object) (t .object) s)
+
   limit : (n : ℕ) (qs : Pattern) → areTriplePatterns site n qs ≡ true → n ≤ mostVariables → variables n (each positions qs) ≤ mostVariables
   unfolding areTriplePatterns variables
   limit n [] h k = k
   limit n (q ∷ qs) h k =
       let c = and-cases (isTriplePattern site n q) (areTriplePatterns site (variables n (positions q)) qs) h in
-      let t = triple-passes site n q (c .0) in
-      let s = position-limit n (q .subject) (t .subject) k in
-      let o = position-limit (variablesWith n (q .subject)) (q .object) (t .object) s in
-      rw (variables-append n (positions q) (each positions qs)) (limit (variables n (positions q)) qs (c .1) (rw (t .counted) o))
+      rw (variables-append n (positions q) (each positions qs)) (limit (variables n (positions q)) qs (c .1) (triple-limit n q (c .0) k))
 
   -- a variable counted at a triple pattern stands in its subject or object
   at-triple : (n v : ℕ) (q : TriplePattern) → TriplePasses site n q → n ≤ v → v < variables n (positions q) → Var v ∈ columns q

@@ -1,0 +1,97 @@
+ghost use mathlib.Core.Path.{_≡_};
+ghost use Prim.Native.Nat.{_<_};
+ghost use Rattle.model.specs.Tables.{kindCount};
+ghost use Rattle.model.specs.Plan.{mayChoose};
+ghost use Rattle.model.specs.Planner.{chooseTable, chosenRows};
+ghost use Rattle.model.specs.Store.{decoded};
+ghost use Rattle.checking.specs.Lookups.{Passed};
+ghost use Rattle.planning.specs.Members.{patternIn, TableOf, PatternHolds};
+ghost use Rattle.planning.specs.Choices.{openTable};
+use crate::pattern::Member;
+use crate::pattern::Pattern;
+use crate::positions::position_at;
+use crate::positions::same_variable;
+use checking::lookup::semi_join_rows;
+use checking::lookup::table_rows;
+use checking::lookup::threshold;
+use tables::kinds::KINDS;
+use tables::kinds::is_stored;
+use tables::kinds::own_column;
+use tables::kinds::partner_column;
+
+// The rows of a reduced table that may be chosen, or that it may not.
+pub enum Reduced {
+    Rows(usize),
+    Closed,
+}
+
+// Kind k for a at place i against b at place j: it may be chosen if it qualifies and is stored.
+pub fn reduced_table(w: &[u32], a: Member, i: usize, b: Member, j: usize, k: usize) -> Reduced
+    requires { ⌜ Passed (now w) × TableOf (decoded (now w) .site) a × TableOf (decoded (now w) .site) b × (k < kindCount) ⌝ }
+    ensures { λ r. ⌜ r ≡ openTable (decoded (now (w .entry))) a i b j k ⌝ }
+{
+    let own = position_at(a.triple, own_column(k));
+    let other = position_at(b.triple, partner_column(k));
+    if i == j || !same_variable(own, other) {
+        return Reduced::Closed;
+    }
+    let rows = semi_join_rows(w, a.table, b.table, k);
+    if is_stored(threshold(w), rows, table_rows(w, a.table)) {
+        return Reduced::Rows(rows);
+    }
+    Reduced::Closed
+}
+
+// Question 20: choice 0, or a stored table that qualifies.
+pub fn may_choose(w: &[u32], pattern: Pattern, i: usize, choice: usize) -> bool
+    requires { ⌜ Passed (now w) × PatternHolds (decoded (now w) .site) pattern × (i < pattern .count) ⌝ }
+    ensures { λ r. ⌜ r ≡ mayChoose (decoded (now (w .entry))) (patternIn pattern) i choice ⌝ }
+{
+    if choice == 0 {
+        return true;
+    }
+    let j = (choice - 1) / KINDS;
+    if pattern.count <= j {
+        return false;
+    }
+    let k = (choice - 1) % KINDS;
+    let a = pattern.members[i];
+    let b = pattern.members[j];
+    match reduced_table(w, a, i, b, j, k) {
+        Reduced::Rows(_) => true,
+        Reduced::Closed => false,
+    }
+}
+
+// The table chosen for a place: its choice, and its rows.
+pub struct Choice {
+    pub number: usize,
+    pub rows: usize,
+}
+
+// The table that may be chosen with fewest rows; on a tie VP first, then lowest j, then lowest k.
+pub fn choose_table(w: &[u32], pattern: Pattern, i: usize) -> Choice
+    requires { ⌜ Passed (now w) × PatternHolds (decoded (now w) .site) pattern × (i < pattern .count) ⌝ }
+    ensures { λ r. ⌜ (r .number ≡ chooseTable (decoded (now (w .entry))) (patternIn pattern) i) × (r .rows ≡ chosenRows (decoded (now (w .entry))) (patternIn pattern) i) ⌝ }
+{
+    let a = pattern.members[i];
+    let mut number: usize = 0;
+    let mut fewest = table_rows(w, a.table);
+    for c in 0..pattern.count * KINDS {
+        let j = c / KINDS;
+        let b = pattern.members[j];
+        match reduced_table(w, a, i, b, j, c % KINDS) {
+            Reduced::Rows(rows) => {
+                if rows < fewest {
+                    number = 1 + c;
+                    fewest = rows;
+                }
+            }
+            Reduced::Closed => {}
+        }
+    }
+    Choice {
+        number,
+        rows: fewest,
+    }
+}

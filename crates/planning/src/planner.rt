@@ -1,0 +1,94 @@
+ghost use mathlib.Core.Path.{_≡_};
+ghost use Prim.Native.Nat.{_≤_};
+ghost use lib.ListN.{length};
+ghost use Rattle.model.specs.Planner.{planned};
+ghost use Rattle.model.specs.Calls.{planNumbers, withPlan, plan as planCall};
+ghost use Rattle.model.specs.Store.{decoded};
+ghost use Rattle.model.specs.declared.answer.Answer.the-variants.{Refused};
+ghost use mathlib.Core.List.{[]};
+ghost use Rattle.checking.specs.Lookups.{Passed};
+ghost use Rattle.planning.specs.Members.{patternIn, PatternHolds};
+ghost use Rattle.planning.specs.Choices.{TablesChosen};
+use crate::choosing::choose_table;
+use crate::ordering::mark_joined;
+use crate::ordering::pick;
+use crate::pattern::Pattern;
+use crate::positions::term_count;
+use crate::questions::read_check;
+use crate::steps::no_plan;
+use model::answer::Answer;
+use model::answer::Planned;
+use model::plan::Plan;
+
+// For each place: the choice of its table, the rows of that table, and the terms among its positions.
+pub fn choose_tables(
+    w: &[u32],
+    pattern: Pattern,
+    choices: &mut [usize; 8],
+    rows: &mut [usize; 8],
+    terms: &mut [usize; 8],
+)
+    requires { ⌜ Passed (now w) × PatternHolds (decoded (now w) .site) pattern ⌝ }
+    requires { ⌜ (pattern .count ≤ length (now choices)) × (pattern .count ≤ length (now rows)) × (pattern .count ≤ length (now terms)) ⌝ }
+    ensures { λ _. ⌜ TablesChosen (decoded (now (w .entry))) (patternIn pattern) (pattern .count) (now (choices .exit)) (now (rows .exit)) (now (terms .exit)) ⌝ }
+{
+    for i in 0..pattern.count {
+        let chosen = choose_table(w, pattern, i);
+        let member = pattern.members[i];
+        choices[i] = chosen.number;
+        rows[i] = chosen.rows;
+        terms[i] = term_count(member.triple);
+    }
+}
+
+// The plan of a pattern that was accepted.
+pub fn plan_pattern(w: &[u32], pattern: Pattern) -> Plan
+    requires { ⌜ Passed (now w) × PatternHolds (decoded (now w) .site) pattern ⌝ }
+    ensures { λ r. ⌜ r ≡ planNumbers (planned (decoded (now (w .entry))) (patternIn pattern)) ⌝ }
+{
+    let mut choices = [0usize; 8];
+    let mut rows = [0usize; 8];
+    let mut terms = [0usize; 8];
+    choose_tables(w, pattern, &mut choices, &mut rows, &mut terms);
+    let mut steps = [0u8; 16];
+    let mut taken = [false; 8];
+    let mut joined = [false; 8];
+    for n in 0..pattern.count {
+        let i = pick(pattern.count, &taken, &joined, &terms, &rows);
+        steps[2 * n] = i as u8;
+        steps[2 * n + 1] = choices[i] as u8;
+        taken[i] = true;
+        mark_joined(pattern, i, &mut joined);
+    }
+    Plan {
+        steps,
+        count: pattern.count,
+    }
+}
+
+// Zeros stand beside a refusal.
+fn plan_refused(refusal: u32) -> Planned
+    ensures { λ r. ⌜ r ≡ withPlan (Refused refusal) [] ⌝ }
+{
+    let plan = no_plan();
+    Planned {
+        answer: Answer::Refused(refusal),
+        plan,
+    }
+}
+
+// Plans a check over a store.
+pub fn plan(w: &[u32], s: &[u8]) -> Planned
+    ensures { λ r. ⌜ r ≡ planCall (now (w .entry)) (now (s .entry)) ⌝ }
+{
+    let read = read_check(w, s);
+    let refusal = read.refusal;
+    if refusal != 0 {
+        return plan_refused(refusal);
+    }
+    let plan = plan_pattern(w, read.pattern);
+    Planned {
+        answer: Answer::Plan,
+        plan,
+    }
+}
