@@ -1,10 +1,18 @@
 ghost use mathlib.Core.Path.{_≡_};
-ghost use Rattle.model.specs.Calls.{outcome, build as buildOutcome};
+ghost use Rattle.model.specs.Calls.{outcome, build as buildOutcome, plan as planAnswer};
 use model::answer::Answer;
+use model::answer::Planned;
 
 // Builds the store of a site's file at the threshold t: Built with the words used, or a refusal 1 to 9 that leaves the store as it was.
 pub fn build(t: u32, site: &[u8], store: &mut [u32]) -> Answer
     ensures { λ r. ⌜ outcome r (now (store .exit)) ≡ buildOutcome t (now (site .entry)) (now (store .entry)) ⌝ }
 {
     building::builder::build(t, site, store)
+}
+
+// Plans a check over a store: Plan with its steps and their count, or a refusal 10 to 17 with zeros beside it.
+pub fn plan(store: &[u32], pattern: &[u8]) -> Planned
+    ensures { λ r. ⌜ r ≡ planAnswer (now (store .entry)) (now (pattern .entry)) ⌝ }
+{
+    planning::planner::plan(store, pattern)
 }

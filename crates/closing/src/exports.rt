@@ -1,19 +1,10 @@
 ghost use mathlib.Core.Path.{_≡_};
 ghost use mathlib.Core.List.{[]};
-ghost use Rattle.model.specs.Calls.{numberOf, valuesOf, planNumbers, build as buildOutcome};
+ghost use Rattle.model.specs.Calls.{numberOf, valuesOf, planBytesOf, planNumbers, build as buildOutcome, plan as planAnswer};
 use crate::calls::build;
+use crate::calls::plan;
 use crate::report::report;
-use model::plan::Plan;
-
-// What stands beside an answer that is no plan.
-fn no_plan() -> Plan
-    ensures { λ r. ⌜ r ≡ planNumbers [] ⌝ }
-{
-    Plan {
-        steps: [0u8; 16],
-        count: 0,
-    }
-}
+use planning::steps::no_plan;
 
 // `build` for C: returns 0, or the refusal's number and then neither the store nor the answer is altered.
 #[no_mangle]
@@ -30,4 +21,27 @@ pub extern "C" fn closing_build(
     let made = build(t, site, store);
     let plan = no_plan();
     report(made, plan, answer)
+}
+
+// `plan` for C: returns 0, or the refusal's number and then neither the steps nor the answer is altered.
+#[no_mangle]
+pub extern "C" fn closing_plan(
+    store: &[u32],
+    pattern: &[u8],
+    steps: &mut [u8; 16],
+    answer: &mut [u64; 4],
+) -> u32
+    ensures { λ r. ⌜ r ≡ numberOf (planAnswer (now (store .entry)) (now (pattern .entry)) .answer) ⌝ }
+    ensures { λ _. ⌜ now (steps .exit) ≡ planBytesOf (planAnswer (now (store .entry)) (now (pattern .entry))) (now (steps .entry)) ⌝ }
+    ensures { λ _. ⌜ now (answer .exit) ≡ valuesOf (planAnswer (now (store .entry)) (now (pattern .entry)) .answer) (planAnswer (now (store .entry)) (now (pattern .entry)) .plan) (now (answer .entry)) ⌝ }
+{
+    let made = plan(store, pattern);
+    let reply = made.answer;
+    let planned = made.plan;
+    let number = report(reply, planned, answer);
+    if number == 0 {
+        let all = planned.steps;
+        *steps = all;
+    }
+    number
 }
