@@ -1,100 +1,82 @@
-// Tries `build` on the cases of standard input, and prints each answer with the words lent. A case: T in four bytes, the words lent in
-// two, the bytes of the site's file in two, all low byte first, and the file.
-ghost use Prim.Native.Nat.{_<_};
-use model::answer::Answer;
+// Tries the calls on the cases of standard input, and prints each answer with what was lent or handed back. A case: its kind in one
+// byte, a number in four, a count of words in two, the place of a word in two, the sizes of two files in two each, all low byte
+// first, and the files.
+//   0  build: the number is T, so many words are lent, each 7; the first file is the site's
+//   1  the words of the first file, four bytes each, are held from here on
+//   2  plan, over so many of the words held, the word at the place changed to the number; the first file is the pattern
+//   3  questions 10 to 20, as in 2; the second file is a plan
+mod building_cases;
+mod bytes;
+mod planning_cases;
+mod printing;
 
-const MOST_CASES: usize = 1000;
+use building_cases::try_build;
+use bytes::number_at;
+use bytes::pair_at;
+use bytes::wide;
+use bytes::words_into;
+use planning_cases::try_changed;
 
-const CASE_BYTES: usize = 32768;
+const MOST_CASES: usize = 4000;
 
-const LENT_WORDS: usize = 65536;
+const HEADER_BYTES: usize = 13;
 
-fn wide(x: u8) -> usize
-    ensures { λ r. ⌜ r < 256 ⌝ }
-{
-    x as usize
-}
+const CASE_BYTES: usize = 262144;
 
-// Two bytes at a place, low byte first; 0 past the end.
-fn pair_at(s: &[u8], at: usize) -> usize
-    requires { ⌜ at < 65536 ⌝ }
-    ensures { λ r. ⌜ r < 65536 ⌝ }
-{
-    if at + 1 < s.len() {
-        wide(s[at]) + 256 * wide(s[at + 1])
+const HELD_WORDS: usize = 4096;
+
+// The files of a case are split at the first one's size.
+fn try_case(
+    kind: usize,
+    number: u32,
+    words: usize,
+    place: usize,
+    files: &[u8],
+    size: usize,
+    held: &mut [u32],
+) {
+    if files.len() < size {
+        return;
+    }
+    let first = &files[..size];
+    let second = &files[size..];
+    if kind == 0 {
+        try_build(number, first, words);
+    } else if kind == 1 {
+        words_into(first, held);
     } else {
-        0
+        try_changed(kind == 3, number, words, place, first, second, held);
     }
 }
 
-fn is_unaltered(store: &[u32]) -> bool {
-    for i in 0..store.len() {
-        if store[i] != 7 {
-            return false;
-        }
+// Tries the case at a place, and gives the place of the next.
+fn try_at(cases: &[u8], at: usize, held: &mut [u32]) -> usize {
+    if CASE_BYTES <= at || cases.len() <= at {
+        return CASE_BYTES;
     }
-    true
-}
-
-fn word(x: u32) -> u64 {
-    x as u64
-}
-
-fn print_words(store: &[u32]) {
-    if is_unaltered(store) {
-        io::write_all(1, b" unaltered");
-    } else {
-        for i in 0..store.len() {
-            io::write_all(1, b" ");
-            io::print_decimal(1, word(store[i]));
-        }
+    let kind = wide(cases[at]);
+    let number = number_at(cases, at + 1);
+    let words = pair_at(cases, at + 5);
+    let place = pair_at(cases, at + 7);
+    let start = at + HEADER_BYTES;
+    let first = pair_at(cases, at + 9);
+    let end = start + first + pair_at(cases, at + 11);
+    if cases.len() < end {
+        return CASE_BYTES;
     }
-    io::write_all(1, b"\n");
-}
-
-fn print_number(name: &[u8], number: u32) {
-    io::write_all(1, name);
-    io::print_decimal(1, number as u64);
-}
-
-fn print_answer(answer: Answer) {
-    match answer {
-        Answer::Built(used) => print_number(b"built ", used),
-        Answer::Refused(number) => print_number(b"refused ", number),
-        Answer::Rows(_, _) => print_number(b"rows ", 0),
-        Answer::None => print_number(b"none ", 0),
-        Answer::Plan => print_number(b"plan ", 0),
-    }
-}
-
-fn try_build(t: u32, site: &[u8], store: &mut [u32]) {
-    print_answer(closing::calls::build(t, site, store));
-    print_words(store);
-}
-
-// With so many words lent, each 7.
-fn try_case(t: u32, site: &[u8], lent: usize) {
-    let mut memory = [7u32; LENT_WORDS];
-    if lent <= LENT_WORDS {
-        try_build(t, site, &mut memory[..lent]);
-    }
+    try_case(kind, number, words, place, &cases[start..end], first, held);
+    end
 }
 
 fn main() {
     let mut buffer = [0u8; CASE_BYTES];
     let size = io::read_full(0, &mut buffer);
+    let mut held = [0u32; HELD_WORDS];
     let mut at: usize = 0;
     for _ in 0..MOST_CASES {
-        if at < size && at < CASE_BYTES {
-            let low = pair_at(&buffer, at);
-            let high = pair_at(&buffer, at + 2);
-            let lent = pair_at(&buffer, at + 4);
-            let start = at + 8;
-            let end = start + pair_at(&buffer, at + 6);
-            if end <= CASE_BYTES {
-                try_case((low + 65536 * high) as u32, &buffer[start..end], lent);
-            }
-            at = end;
+        if size <= at {
+            return;
         }
+        at = try_at(&buffer, at, &mut held);
     }
 }

@@ -1,4 +1,4 @@
--- As many words are lent as were asked for.
+-- The first file ends where its size says.
 use native.Mathlib.Omega.{arith}
 use mathlib.Core.Path.{sym}
 use lib.Seq.{length-take-le}
@@ -6,27 +6,59 @@ use borrow.Author.Needs.{needs}
 use Rattle.vectors.proofs.try_case.Statement.{statement}
 use Rattle.vectors.proofs.try_case.Tie as tie
 
-array-borrow-prefix-memory : tie.Need-array-borrow-prefix-memory
-array-borrow-prefix-memory c = search needs
+returns : tie.Need-returns
+returns c = search needs
 
-slice-aggregate-try-build : tie.Need-slice-aggregate-try-build
-slice-aggregate-try-build c = sym (length-take-le _ _ (omega arith))
+slice-aggregate-first : tie.Need-slice-aggregate-first
+slice-aggregate-first c = sym (length-take-le _ _ (omega arith))
+
+sub-second : tie.Need-sub-second
+sub-second c = search needs
+
+part-second-start : tie.Need-part-second-start
+part-second-start c = search needs
+
+part-second-end : tie.Need-part-second-end
+part-second-end c = search needs
 
 try-build-requires : tie.Need-try-build-requires
 try-build-requires c κs = search needs
 
-returns : tie.Need-returns
-returns c = search needs
+words-into-requires : tie.Need-words-into-requires
+words-into-requires c κs = search needs
+
+try-changed-requires : tie.Need-try-changed-requires
+try-changed-requires c κs = search needs
 
 returns-2 : tie.Need-returns-2
 returns-2 c = search needs
+
+same-length : tie.Need-same-length
+same-length c = search needs
+
+returns-3 : tie.Need-returns-3
+returns-3 c = search needs
+
+same-length-2 : tie.Need-same-length-2
+same-length-2 c = search needs
+
+returns-4 : tie.Need-returns-4
+returns-4 c = search needs
 
 pub try-case-spec : {M : Type 1} → statement M
 try-case-spec =
     tie.close
     (tie.spec
-    array-borrow-prefix-memory
-    slice-aggregate-try-build
-    try-build-requires
     returns
-    returns-2)
+    slice-aggregate-first
+    sub-second
+    part-second-start
+    part-second-end
+    try-build-requires
+    words-into-requires
+    try-changed-requires
+    returns-2
+    same-length
+    returns-3
+    same-length-2
+    returns-4)

@@ -1,8 +1,8 @@
 -- The words from i on are still to print.
 use Prim.Native.Nat.{_≤_, _-_}
 use borrow.Author.Needs.{needs}
-use Rattle.vectors.proofs.print_words.Statement.{statement}
-use Rattle.vectors.proofs.print_words.Tie as tie
+use Rattle.vectors.proofs.printing.print_words.Statement.{statement}
+use Rattle.vectors.proofs.printing.print_words.Tie as tie
 
 abbrev Inv-loop : tie.InvT-loop
 Inv-loop store i₀ t4 t5 i-end i = i ≤ i-end

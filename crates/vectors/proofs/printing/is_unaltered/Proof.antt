@@ -1,8 +1,8 @@
 -- The words from i on are still to look at.
 use Prim.Native.Nat.{_≤_, _-_}
 use borrow.Author.Needs.{needs}
-use Rattle.vectors.proofs.is_unaltered.Statement.{statement}
-use Rattle.vectors.proofs.is_unaltered.Tie as tie
+use Rattle.vectors.proofs.printing.is_unaltered.Statement.{statement}
+use Rattle.vectors.proofs.printing.is_unaltered.Tie as tie
 
 abbrev Inv-loop : tie.InvT-loop
 Inv-loop store i₀ i-end i = i ≤ i-end

@@ -1,0 +1,113 @@
+"""The further cases of `build`: T, the site's file, the words lent."""
+from reference import layout, number, read_site, site_file
+from sites import G1, SHOP
+
+# A good file as its numbers, and each single fault in it: the place of a number, and the bytes that stand there instead.
+NUMBERS = [2, 5, 2, 6, 2, 4, 2, 4, 3, 1, 1, 2, 0]
+T_PLACE, END_PLACE, STORE_PLACE = -1, len(NUMBERS), len(NUMBERS) + 1
+FAULTS = (
+    [(T_PLACE, b''), (END_PLACE, b'\x00'), (STORE_PLACE, b'')]
+    + [(place, b'\x80\x00') for place in range(len(NUMBERS))]
+    + [(0, number(17)), (1, number(65536)), (3, number(5)), (2, number(1025)), (4, number(1025))]
+    + [(place, number(65536)) for place in range(5, len(NUMBERS))]
+    + [(8, number(2)), (11, number(1))]
+)
+
+
+def faulty(faults):
+    """The case of the good file with these faults."""
+    there = dict(faults)
+    data = b''.join(there.get(place, number(value)) for place, value in enumerate(NUMBERS)) + there.get(END_PLACE, b'')
+    needed = len(layout(1000, read_site(b''.join(map(number, NUMBERS)))))
+    return 1001 if T_PLACE in there else 1000, data, needed - 1 if STORE_PLACE in there else needed
+
+
+def cases():
+    """(T, file, lent words)"""
+    room = 96
+    # the shop at thresholds around its one boundary, and in stores of around its size
+    for threshold in (0, 1, 500, 666, 667, 999, 1000, 1001, 65536, 2**32 - 1):
+        yield threshold, SHOP, room
+    for lent in (0, 1, 3, 79, 80, 83, 84, 85):
+        yield 1000, SHOP, lent
+        yield 666, SHOP, lent
+    # every prefix of a good file, and one byte too many
+    for end in range(len(SHOP)):
+        yield 1000, SHOP[:end], room
+    for extra in (0x00, 0x01, 0x80, 0xFF):
+        yield 1000, SHOP + bytes([extra]), room
+    # G1, and its tables at lower thresholds: selectivities of 1/4, 1/3, 1/2 and 3/4
+    for threshold in (1000, 751, 750, 501, 500, 334, 333, 251, 250, 0):
+        yield threshold, site_file(G1), room
+    # small sites: none declared, none with rows, the least and the greatest terms, sixteen predicates
+    yield 1000, b'\0', 4
+    yield 1000, b'\0', 3
+    yield 1000, b'\0', 2
+    yield 1000, site_file([(0, [])]), 16
+    yield 1000, site_file([(65535, [(0, 0), (0, 65535), (65535, 0), (65535, 65535)])]), 32
+    yield 1000, site_file([(7, []), (8, [(1, 1)]), (9, [])]), 80
+    yield 1000, site_file([(p, []) for p in range(16)]), 2000
+    yield 1000, site_file([(p, []) for p in range(17)]), 2000
+    yield 1000, site_file([(1, [(s, o) for s in range(3) for o in range(3)])]), 64
+    yield 1000, site_file([(1, [(1, 2), (2, 1)]), (2, [(1, 2)])]), 64
+    # the largest sites: 1,024 rows of one predicate, and 64 of each of sixteen; with one word too few, and, where little is stored, whole
+    lone = [(9, [(s, o) for s in range(64) for o in range(s, s + 16)])]
+    wide = [(p, [(s, (7 * s + p) % 128) for s in range(p, p + 64)]) for p in range(16)]
+    for threshold, site in ((1000, lone), (1000, wide), (0, lone), (0, wide)):
+        yield threshold, site_file(site), len(layout(threshold, site)) - 1
+    yield 0, site_file(lone), len(layout(0, lone))
+    yield 0, site_file(wide), len(layout(0, wide)) + 1
+    # numbers that are not whole or not in shortest form, at each kind of place
+    for bad in (b'', b'\x80', b'\x81', b'\x80\x00', b'\x81\x00', b'\x80\x80', b'\x80\x80\x00', b'\x81\x80\x00', b'\x80\x80\x80',
+                b'\x80\x80\x80\x01', b'\xff\xff\xff\x7f'):
+        yield 1000, bad, 8
+        yield 1000, b'\x01' + bad, 8
+        yield 1000, b'\x01\x05' + bad, 8
+        yield 1000, b'\x01\x05\x01' + bad, 8
+        yield 1000, b'\x01\x05\x01\x09' + bad, 8
+    # a field out of its range, with good form
+    for count in (17, 127, 128, 16384, 2097151):
+        yield 1000, number(count), 8
+    yield 1000, b'\x01' + number(65536) + b'\x00', 16
+    yield 1000, b'\x01\x05\x01' + number(65536) + b'\x01', 16
+    yield 1000, b'\x01\x05\x01\x01' + number(65536), 16
+    yield 1000, b'\x01\x05\x01' + number(65535) + number(65535), 32
+    yield 1000, b'\x01\x05' + number(1024), 8
+    yield 1000, b'\x01\x05' + number(1025), 8
+    yield 1000, b'\x02\x05' + number(1000) + b'\x06' + number(24), 8
+    yield 1000, b'\x02\x05' + number(1000) + b'\x06' + number(25), 8
+    yield 1000, b'\x02\x05' + number(2097151) + b'\x06\x00', 8
+    # out of order: predicates, subjects, objects; equal ones too
+    for second in (4, 5, 6):
+        yield 1000, site_file([(5, []), (second, [])]), 48
+    for row in ((3, 9), (4, 1), (4, 2), (4, 3), (5, 0)):
+        yield 1000, site_file([(5, [(4, 2), row])]), 48
+    # each table begins anew
+    yield 1000, site_file([(5, [(9, 9)]), (6, [(1, 1)])]), 64
+    # each single fault, and each two at different places: the one that is met first
+    yield faulty([])
+    for first in FAULTS:
+        yield faulty([first])
+        for second in FAULTS:
+            if first[0] < second[0]:
+                yield faulty([first, second])
+    # two faults at once, by hand
+    yield 1001, b'', 8
+    yield 1001, number(17), 8
+    yield 1001, SHOP, 0
+    yield 1000, b'\x11\x80', 8
+    yield 1000, b'\x02\x05' + number(1025) + b'\x05\x00', 8
+    yield 1000, b'\x02\x05' + number(1025) + b'\x80\x00', 8
+    yield 1000, b'\x02\x05\x00\x05' + number(1025), 8
+    yield 1000, b'\x02\x05\x00\x05\x80\x00', 8
+    yield 1000, b'\x02\x05\x80\x00\x05\x00', 8
+    yield 1000, b'\x02\x05\x01\x05\x01' + number(65536), 8
+    yield 1000, b'\x02\x05\x01\x06\x01' + number(65536) + b'\x80', 8
+    yield 1000, b'\x01\x05\x02\x04\x02\x04\x02\x80\x00', 8
+    yield 1000, b'\x01\x05\x02\x04\x02\x04' + number(65536), 8
+    yield 1000, b'\x01\x05\x02\x04\x02\x03' + number(65536), 8
+    yield 1000, b'\x01\x05\x02\x04\x02\x04\x02\x00', 8
+    yield 1000, b'\x01\x05\x03\x04\x02\x04\x02' + number(65536), 8
+    yield 1000, SHOP + b'\x00', 83
+    yield 1000, SHOP[:-1] + b'\x28', 83
+    yield 1000, SHOP, 83

@@ -1,0 +1,16 @@
+"""Sites that the cases share: the shop of document 01, and the graph G1 of the S2RDF paper."""
+
+SHOP = bytes.fromhex('03 01 03 02 02 03 02 0A 14 0B 15 0C 15 0A 1E 0B 1E 14 28 15 29')
+
+# G1 of the paper: A to D are 1 to 4, I1 and I2 are 5 and 6; follows is 10, likes is 11.
+G1 = [(10, [(1, 2), (2, 3), (2, 4), (3, 4)]), (11, [(1, 5), (1, 6), (3, 6)])]
+# Its store at T 1,000, by hand from Fig. 10: of follows against follows OS has AB BC and SO has BC BD CD; against likes SS has AB CD
+# and OS has BC; of likes against follows SO has C I2. Tables equal to VP and empty ones are not stored.
+G1_WORDS = [
+    2, 1000, 65,
+    10, 4, 33, 11, 3, 41,
+    4, 0, 2, 47, 3, 51,  2, 57, 1, 61, 0, 0,
+    3, 0, 0, 0, 1, 63,  3, 0, 0, 0, 0, 0,
+    1, 2, 2, 3, 2, 4, 3, 4,  1, 5, 1, 6, 3, 6,
+    1, 2, 2, 3,  2, 3, 2, 4, 3, 4,  1, 2, 3, 4,  2, 3,  3, 6,
+]
