@@ -25,11 +25,11 @@ use Rattle.model.proofs.Partition.{proper, vp-table}
 use Rattle.model.proofs.Places.{qualifying}
 use Rattle.tables.proofs.Entries.{keep-fewer, table-fewer}
 use Rattle.planning.specs.Members.{memberAt, patternIn, TableOf, PatternCells, PatternHolds}
-use Rattle.planning.specs.Choices.{openTable}
+use Rattle.planning.specs.Choices.{chooseableTable}
 use Rattle.planning.specs.declared.pattern.Member.{Member}
 use Rattle.planning.specs.declared.pattern.Pattern.{Pattern as Members}
-use Rattle.planning.specs.declared.choosing.Reduced.{Reduced}
-use Rattle.planning.specs.declared.choosing.Reduced.the-variants.{Rows, Closed}
+use Rattle.planning.specs.declared.choosing.Chooseable.{Chooseable}
+use Rattle.planning.specs.declared.choosing.Chooseable.the-variants.{Rows, Nothing}
 use Rattle.planning.proofs.MemberLaws.{pattern-length, triple-member}
 
 -- ---- the tables of a proper site
@@ -61,33 +61,33 @@ pub open-by : {store : Store} {a b : Member} (i j k : ℕ) {t n m : ℕ} {itself
     → t ≡ store .threshold → n ≡ length (semiJoin (kindAt k) (tableAt (store .site) (a .table) .rows) (tableAt (store .site) (b .table) .rows))
     → m ≡ length (tableAt (store .site) (a .table) .rows)
     → eqb i j ≡ itself → sameVariable (positionAt (kindAt k .0) (a .triple)) (positionAt (kindAt k .1) (b .triple)) ≡ shared → isStored t n m ≡ stored
-    → openTable store a i b j k ≡ cond ((not itself && shared) && stored) (Rows n) Closed
-unfolding openTable
+    → chooseableTable store a i b j k ≡ cond ((not itself && shared) && stored) (Rows n) Nothing
+unfolding chooseableTable
 open-by {store} i j k yes-site own other et en em ei es ek =
     rw (member-table (store .site) yes-site own, member-table (store .site) yes-site other, ← et, ← en, ← em, ei, es, ek) refl
 
 -- the table that a choice names, given without its 1
-abbrev pub openAt : Store → Members → ℕ → ℕ → Reduced
-openAt store pattern i c = openTable store (memberAt pattern i) i (memberAt pattern (partner c)) (partner c) (c % kindCount)
+abbrev pub chooseableAt : Store → Members → ℕ → ℕ → Chooseable
+chooseableAt store pattern i c = chooseableTable store (memberAt pattern i) i (memberAt pattern (partner c)) (partner c) (c % kindCount)
 
 module _ (store : Store) {pattern : Members} (i c : ℕ) (cells : PatternCells pattern) (h : i < pattern .count) (l : partner c < pattern .count) where
-  open-choice : openAt store pattern i c ≡ cond (mayChoose store (patternIn pattern) i (suc c)) (Rows (tableRows store (patternIn pattern) i (suc c))) Closed
-  unfolding openTable mayChoose qualifies tableRows chosenTable reducedTable fullTable
+  open-choice : chooseableAt store pattern i c ≡ cond (mayChoose store (patternIn pattern) i (suc c)) (Rows (tableRows store (patternIn pattern) i (suc c))) Nothing
+  unfolding chooseableTable mayChoose qualifies tableRows chosenTable reducedTable fullTable
   open-choice =
       rw (triple-member pattern i h, triple-member pattern (partner c) l, pattern-length cells, lt-ltb i _ h, lt-ltb (partner c) _ l) refl
 
-  pub choice-open : {found : Reduced} {r : ℕ} → found ≡ openAt store pattern i c → found ≡ Rows r
+  pub choice-open : {found : Chooseable} {r : ℕ} → found ≡ chooseableAt store pattern i c → found ≡ Rows r
       → (mayChoose store (patternIn pattern) i (suc c) ≡ true) × (r ≡ tableRows store (patternIn pattern) i (suc c))
   choice-open {r} f e = go (mayChoose store (patternIn pattern) i (suc c)) (tableRows store (patternIn pattern) i (suc c)) (sym open-choice ∙ sym f ∙ e)
     where
-      go : (b : Bool) (n : ℕ) → cond b (Rows n) Closed ≡ Rows r → (b ≡ true) × (r ≡ n)
+      go : (b : Bool) (n : ℕ) → cond b (Rows n) Nothing ≡ Rows r → (b ≡ true) × (r ≡ n)
       go true n e = (refl, cc)
       go false n e = (cc, cc)
 
-  pub choice-closed : {found : Reduced} → found ≡ openAt store pattern i c → found ≡ Closed → mayChoose store (patternIn pattern) i (suc c) ≡ false
+  pub choice-closed : {found : Chooseable} → found ≡ chooseableAt store pattern i c → found ≡ Nothing → mayChoose store (patternIn pattern) i (suc c) ≡ false
   choice-closed f e = go (mayChoose store (patternIn pattern) i (suc c)) (tableRows store (patternIn pattern) i (suc c)) (sym open-choice ∙ sym f ∙ e)
     where
-      go : (b : Bool) (n : ℕ) → cond b (Rows n) Closed ≡ Closed → b ≡ false
+      go : (b : Bool) (n : ℕ) → cond b (Rows n) Nothing ≡ Nothing → b ≡ false
       go true n e = cc
       go false n e = refl
 
@@ -153,8 +153,8 @@ module _ (store : Store) (pattern : Pattern) (i : ℕ) where
       go false = ap (best fewer 0) (append-nil (keep may (below (suc c)))) ∙ sym (v .chosen)
 
 -- the answer for the next choice, and what the code makes of it
-module _ {store : Store} {pattern : Members} {i c number rows number′ rows′ : ℕ} {found : Reduced} (cells : PatternCells pattern) (h : i < pattern .count)
-    (v : BestTo store (patternIn pattern) i c number rows) (l : c < pattern .count * kindCount) (f : found ≡ openAt store pattern i c) where
+module _ {store : Store} {pattern : Members} {i c number rows number′ rows′ : ℕ} {found : Chooseable} (cells : PatternCells pattern) (h : i < pattern .count)
+    (v : BestTo store (patternIn pattern) i c number rows) (l : c < pattern .count * kindCount) (f : found ≡ chooseableAt store pattern i c) where
   pub best-better : {r : ℕ} → found ≡ Rows r → r < rows → number′ ≡ 1 + c → rows′ ≡ r → BestTo store (patternIn pattern) i (c + 1) number′ rows′
   best-better e k p q =
       let (allowed, same) = choice-open store i c cells h (omega arith) f e in
@@ -167,7 +167,7 @@ module _ {store : Store} {pattern : Members} {i c number rows number′ rows′ 
       let no-fewer = le-ltb (tableRows store (patternIn pattern) i (suc c)) rows (omega arith) in
       rw (add-one c, p, q) (record { chosen = best-next store (patternIn pattern) i true false v allowed no-fewer; counted = v .counted })
 
-  pub best-closed : found ≡ Closed → number′ ≡ number → rows′ ≡ rows → BestTo store (patternIn pattern) i (c + 1) number′ rows′
+  pub best-closed : found ≡ Nothing → number′ ≡ number → rows′ ≡ rows → BestTo store (patternIn pattern) i (c + 1) number′ rows′
   best-closed e p q =
       let shut = choice-closed store i c cells h (omega arith) f e in
       rw (add-one c, p, q) (record { chosen = best-next store (patternIn pattern) i false _ v shut refl; counted = v .counted })

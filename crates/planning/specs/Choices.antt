@@ -11,19 +11,19 @@ use Rattle.model.specs.Store.{Store}
 use Rattle.model.specs.Pattern.{Pattern, positions, tripleAt, positionAt, sameVariable, predicateTable}
 use Rattle.model.specs.Planner.{chooseTable, chosenRows, isFixed}
 use Rattle.planning.specs.declared.pattern.Member.{Member}
-use Rattle.planning.specs.declared.choosing.Reduced.{Reduced}
-use Rattle.planning.specs.declared.choosing.Reduced.the-variants.{Rows, Closed}
+use Rattle.planning.specs.declared.choosing.Chooseable.{Chooseable}
+use Rattle.planning.specs.declared.choosing.Chooseable.the-variants.{Rows, Nothing}
 
 -- kind k of a at place i against b at place j, if it qualifies and is stored
-unfoldable pub openTable : Store → Member → ℕ → Member → ℕ → ℕ → Reduced
-openTable store a i b j k =
+unfoldable pub chooseableTable : Store → Member → ℕ → Member → ℕ → ℕ → Chooseable
+chooseableTable store a i b j k =
     let full = predicateTable (store .site) (a .triple .predicate) in
     let left = semiJoin (kindAt k) full (predicateTable (store .site) (b .triple .predicate)) in
     cond (
     (not (eqb i j) && sameVariable (positionAt (kindAt k .0) (a .triple)) (positionAt (kindAt k .1) (b .triple)))
     && isStored (store .threshold) (length left) (length full)
     )
-    (Rows (length left)) Closed
+    (Rows (length left)) Nothing
 
 -- for each of n places: the choice, the rows of the table chosen, and the terms among the positions
 pub record TablesChosen (store : Store) (pattern : Pattern) (n : ℕ) (choices rows terms : List ℕ) : Type 0 where

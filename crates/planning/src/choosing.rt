@@ -6,7 +6,7 @@ ghost use Rattle.model.specs.Planner.{chooseTable, chosenRows};
 ghost use Rattle.model.specs.Store.{decoded};
 ghost use Rattle.checking.specs.Lookups.{Passed};
 ghost use Rattle.planning.specs.Members.{patternIn, TableOf, PatternHolds};
-ghost use Rattle.planning.specs.Choices.{openTable};
+ghost use Rattle.planning.specs.Choices.{chooseableTable};
 use crate::pattern::Member;
 use crate::pattern::Pattern;
 use crate::positions::position_at;
@@ -19,27 +19,27 @@ use tables::kinds::is_stored;
 use tables::kinds::own_column;
 use tables::kinds::partner_column;
 
-// The rows of a reduced table that may be chosen, or that it may not.
-pub enum Reduced {
+// The rows of a table that may be chosen, or that it may not.
+pub enum Chooseable {
     Rows(usize),
-    Closed,
+    Nothing,
 }
 
 // Kind k for a at place i against b at place j: it may be chosen if it qualifies and is stored.
-pub fn reduced_table(w: &[u32], a: Member, i: usize, b: Member, j: usize, k: usize) -> Reduced
+pub fn reduced_table(w: &[u32], a: Member, i: usize, b: Member, j: usize, k: usize) -> Chooseable
     requires { ⌜ Passed (now w) × TableOf (decoded (now w) .site) a × TableOf (decoded (now w) .site) b × (k < kindCount) ⌝ }
-    ensures { λ r. ⌜ r ≡ openTable (decoded (now (w .entry))) a i b j k ⌝ }
+    ensures { λ r. ⌜ r ≡ chooseableTable (decoded (now (w .entry))) a i b j k ⌝ }
 {
     let own = position_at(a.triple, own_column(k));
     let other = position_at(b.triple, partner_column(k));
     if i == j || !same_variable(own, other) {
-        return Reduced::Closed;
+        return Chooseable::Nothing;
     }
     let rows = semi_join_rows(w, a.table, b.table, k);
     if is_stored(threshold(w), rows, table_rows(w, a.table)) {
-        return Reduced::Rows(rows);
+        return Chooseable::Rows(rows);
     }
-    Reduced::Closed
+    Chooseable::Nothing
 }
 
 // Question 20: choice 0, or a stored table that qualifies.
@@ -58,8 +58,8 @@ pub fn may_choose(w: &[u32], pattern: Pattern, i: usize, choice: usize) -> bool
     let a = pattern.members[i];
     let b = pattern.members[j];
     match reduced_table(w, a, i, b, j, k) {
-        Reduced::Rows(_) => true,
-        Reduced::Closed => false,
+        Chooseable::Rows(_) => true,
+        Chooseable::Nothing => false,
     }
 }
 
@@ -81,13 +81,13 @@ pub fn choose_table(w: &[u32], pattern: Pattern, i: usize) -> Choice
         let j = c / KINDS;
         let b = pattern.members[j];
         match reduced_table(w, a, i, b, j, c % KINDS) {
-            Reduced::Rows(rows) => {
+            Chooseable::Rows(rows) => {
                 if rows < fewest {
                     number = 1 + c;
                     fewest = rows;
                 }
             }
-            Reduced::Closed => {}
+            Chooseable::Nothing => {}
         }
     }
     Choice {

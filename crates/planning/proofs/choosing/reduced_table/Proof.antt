@@ -1,4 +1,4 @@
--- Each return by the tests of `openTable` that led there.
+-- Each return by the tests of `chooseableTable` that led there.
 use mathlib.Core.Path.{_≡_, refl, sym, _∙_}
 use mathlib.Core.Logic.{⊎-elim}
 use mathlib.Core.Bool.{Bool, cond}
@@ -7,8 +7,8 @@ use borrow.Author.Tests.{eq-eqb, ne-eqb, not-true, not-false}
 use Rattle.model.specs.Tables.{kindAt}
 use Rattle.model.specs.Store.{decoded}
 use Rattle.model.specs.Pattern.{positionAt, sameVariable}
-use Rattle.planning.specs.Choices.{openTable}
-use Rattle.planning.specs.declared.choosing.Reduced.the-variants.{Rows, Closed}
+use Rattle.planning.specs.Choices.{chooseableTable}
+use Rattle.planning.specs.declared.choosing.Chooseable.the-variants.{Rows, Nothing}
 use Rattle.checking.proofs.Lookups.{passed-threshold, passed-site}
 use Rattle.planning.proofs.Chooseable.{table-few, left-few, same-named, open-by}
 use Rattle.planning.proofs.choosing.reduced_table.Statement.{statement}
@@ -76,7 +76,7 @@ is-stored-requires c κs =
 -- the table, by whether it is stored
 stored-is : (c : tie.After-is-stored) {b : Bool} → c .is-stored .result ≡ b → let rows = c .before .before .before in
     let args = start (rows .before .before .before .before) .args in
-    openTable (decoded (args .w .now)) (args .a) (args .i) (args .b) (args .j) (args .k) ≡ cond b (Rows (rows .semi-join-rows .result)) Closed
+    chooseableTable (decoded (args .w .now)) (args .a) (args .i) (args .b) (args .j) (args .k) ≡ cond b (Rows (rows .semi-join-rows .result)) Nothing
 stored-is c e =
     let rows = c .before .before .before in
     let same = rows .before .before in
