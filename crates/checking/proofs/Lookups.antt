@@ -7,17 +7,22 @@ use mathlib.Core.Path.{_≡_, refl, ap, _∙_}
 use mathlib.Core.Bool.{Bool, true, false, cond}
 use mathlib.Core.Option.{none, some}
 use mathlib.Core.List.{List, [], _∷_}
-use lib.ListN.{length, getD, drop, List·getD-append}
+use lib.ListN.{length, getD, take, drop, length-take, length-drop, List·getD-append}
 use lib.Seq.{drop-cons, drop-length}
-use lib.Dec.{eqb}
-use borrow.Author.Tests.{eqb-true, eq-eqb, ne-eqb}
-use Rattle.model.specs.Site.{Site, isSite, isDeclared, noTable, tableAt}
-use Rattle.model.specs.Tables.{kindCount, mostThreshold}
-use Rattle.model.specs.Store.{rowsStart, vpEntryAt, semiJoinEntryAt, layout, wordsUsed, Holds, decoded, isStoreOf, storeOf}
+use lib.Dec.{eqb, ltb}
+use borrow.Author.Tests.{ltb-true, eqb-true, eq-eqb, ne-eqb}
+use Rattle.model.specs.Site.{Row, Site, isSite, isDeclared, noTable, tableAt}
+use Rattle.model.specs.Tables.{kindCount, isStored, mostThreshold}
+use Rattle.model.specs.Store.{tableWords, rowsStart, vpEntryAt, semiJoinEntryAt, layout, wordsUsed, Holds, decoded, isStoreOf, storeOf}
+use Rattle.model.proofs.Booleans.{and-cases}
 use Rattle.model.proofs.Membership.{at-place, into-any}
-use Rattle.model.proofs.StoreLayout.{leftAt, length-layout, vp-entry, semi-join-entry}
+use Rattle.model.proofs.Blocks.{Block, element-block, longer-block, drop-block, getD-block}
+use Rattle.model.proofs.StoreLayout.{length-table, entry-and-rows, vpEntry, vp-entries, leftAt, length-layout, vp-entries-block, vp-words-block, vp-entry, semi-join-entry}
+use Rattle.model.proofs.Stores.{rows-back}
+use Rattle.tables.proofs.Setting.{part-block}
+use Rattle.tables.proofs.Images.{block-inside}
 use Rattle.checking.specs.declared.lookup.Found.the-variants.{At, Absent}
-use Rattle.checking.specs.Lookups.{Passed, placeFrom, placeOf}
+use Rattle.checking.specs.Lookups.{Passed, placeFrom, placeOf, RowsAt}
 use Rattle.checking.proofs.Decoding.{siteOf, thresholdOf, store-holds, whole, predicates, used, inside}
 
 -- ---- where a predicate is declared
@@ -82,8 +87,17 @@ unfolding storeOf
 not-passed w e = rw e refl
 
 -- the entry of a semi-join of p predicates stands before the rows
-join-before-rows : (p i j k : ℕ) → i < p → j < p → k < kindCount → semiJoinEntryAt p i j k < rowsStart p
+join-before-rows : (p i j k : ℕ) → i < p → j < p → k < kindCount → semiJoinEntryAt p i j k + 1 < rowsStart p
 join-before-rows p i j k hi hj hk = let square : suc i * p ≤ p * p = mul-le-mul-right p hi in omega arith
+
+-- a table that is stored has rows
+stored-some : (t n m : ℕ) → isStored t n m ≡ true → 0 < n
+unfolding isStored
+stored-some t n m e = ltb-true 0 n (and-cases (ltb 0 n) (ltb (1000 * n) (t * m)) e .0)
+
+-- words that are taken from a place on: it stands inside, if they are any
+taken-inside : (l : List ℕ) (start n : ℕ) → 0 < n → length (take n (drop start l)) ≡ n → start ≤ length l
+taken-inside l start n some-words e = let taken = length-take n (drop start l) in let left = length-drop start l in omega arith
 
 module _ (w : List ℕ) (passed : Passed w) where
   held : Holds w (thresholdOf w) (siteOf w)
@@ -121,6 +135,12 @@ module _ (w : List ℕ) (passed : Passed w) where
       ap (λ (m : List ℕ). getD m x 0) (whole held)
       ∙ List·getD-append (layout (thresholdOf w) (siteOf w)) (drop (wordsUsed w) w) 0 x (omega (arith, front-laid))
 
+  -- rows that are laid out stand in the words
+  rows-at : {start : ℕ} (rows : List Row) → Block (layout (thresholdOf w) (siteOf w)) start (tableWords rows) → RowsAt w start rows
+  rows-at {start} rows laid =
+      let here : Block w start (tableWords rows) = rw (whole held) (longer-block laid (drop (wordsUsed w) w)) in
+      record { inside = rw (← (length-table rows)) (block-inside here); same = rw (drop-block here) (rows-back rows (here .after)) }
+
   -- the entry of the predicate at place i
   module _ (i : ℕ) (hi : i < length (siteOf w)) where
     pub entry-inside : vpEntryAt i + 2 < length w
@@ -132,13 +152,35 @@ module _ (w : List ℕ) (passed : Passed w) where
     pub entry-rows : getD w (vpEntryAt i + 1) 0 ≡ length (tableAt (siteOf w) i .rows)
     entry-rows = word (vpEntryAt i + 1) (omega arith) ∙ vp-entry (thresholdOf w) (siteOf w) i hi .count
 
+    pub table-rows-at : RowsAt w (getD w (vpEntryAt i + 2) 0) (tableAt (siteOf w) i .rows)
+    table-rows-at =
+        let entries = rw (vp-entries (rowsStart (length (siteOf w))) (siteOf w)) at (vp-entries-block (thresholdOf w) (siteOf w)) in
+        let rows = vp-words-block (thresholdOf w) (siteOf w) in
+        let (start, entry, laid) = entry-and-rows (λ x. x .rows) vpEntry 3 (λ here x. refl) entries rows (element-block noTable (siteOf w) i hi) in
+        let here : getD w (vpEntryAt i + 2) 0 ≡ start = word (vpEntryAt i + 2) (omega arith) ∙ getD-block entry 2 0 (omega arith) in
+        rw here (rows-at (tableAt (siteOf w) i .rows) laid)
+
     -- that of a semi-join against the predicate at place j
     module _ (j k : ℕ) (hj : j < length (siteOf w)) (hk : k < kindCount) where
-      pub join-inside : semiJoinEntryAt (getD w 0 0) i j k < length w
+      pub join-inside : semiJoinEntryAt (getD w 0 0) i j k + 1 < length w
       join-inside = let e = join-before-rows (getD w 0 0) i j k (rw predicate-count hi) (rw predicate-count hj) hk in omega (arith, front-inside)
 
       pub join-rows : getD w (semiJoinEntryAt (getD w 0 0) i j k) 0 ≡ length (leftAt (siteOf w) i j k)
       join-rows =
           rw predicate-count
-          (word (semiJoinEntryAt (length (siteOf w)) i j k) (join-before-rows (length (siteOf w)) i j k hi hj hk)
+          (word (semiJoinEntryAt (length (siteOf w)) i j k) (omega (arith, join-before-rows (length (siteOf w)) i j k hi hj hk))
           ∙ semi-join-entry (thresholdOf w) (siteOf w) i j k hi hj hk .count)
+
+      pub join-rows-at : isStored (decoded w .threshold) (length (leftAt (siteOf w) i j k)) (length (tableAt (siteOf w) i .rows)) ≡ true
+          → RowsAt w (getD w (semiJoinEntryAt (getD w 0 0) i j k + 1) 0) (leftAt (siteOf w) i j k)
+      join-rows-at stored =
+          let words = layout (thresholdOf w) (siteOf w) in
+          let left = leftAt (siteOf w) i j k in
+          let place = semiJoinEntryAt (length (siteOf w)) i j k + 1 in
+          let start = getD words place 0 in
+          let laid : take (2 * length left) (drop start words) ≡ tableWords left =
+          semi-join-entry (thresholdOf w) (siteOf w) i j k hi hj hk .rows (rw (← threshold-word) at stored) in
+          let some-words : 0 < 2 * length left = omega (arith, stored-some _ _ _ stored) in
+          let before = taken-inside words start (2 * length left) some-words (ap length laid ∙ length-table left) in
+          let here : getD w place 0 ≡ start = word place (join-before-rows (length (siteOf w)) i j k hi hj hk) in
+          rw (predicate-count, here) (rows-at left (part-block words start (2 * length left) before laid))

@@ -1,11 +1,12 @@
 -- What is looked up in a store that passed question 10.
-use Prim.Native.Nat.{ℕ, suc}
+use Prim.Native.Nat.{ℕ, suc, _+_, _*_, _≤_}
 use mathlib.Core.Path.{_≡_}
 use mathlib.Core.Bool.{true, cond}
 use mathlib.Core.List.{List, [], _∷_}
+use lib.ListN.{length, drop}
 use lib.Dec.{eqb}
-use Rattle.model.specs.Site.{Site}
-use Rattle.model.specs.Store.{decoded, isStoreOf}
+use Rattle.model.specs.Site.{Row, Site}
+use Rattle.model.specs.Store.{rowsIn, decoded, isStoreOf}
 use Rattle.checking.specs.declared.lookup.Found.{Found}
 use Rattle.checking.specs.declared.lookup.Found.the-variants.{At, Absent}
 
@@ -20,3 +21,8 @@ placeFrom i (t ∷ ts) p = cond (eqb (t .predicate) p) (At i) (placeFrom (suc i)
 
 abbrev pub placeOf : Site → ℕ → Found
 placeOf site p = placeFrom 0 site p
+
+-- rows stand in the words from a place on
+pub record RowsAt (words : List ℕ) (start : ℕ) (rows : List Row) : Type 0 where
+  pub inside : start + 2 * length rows ≤ length words
+  pub same : rowsIn (length rows) (drop start words) ≡ rows

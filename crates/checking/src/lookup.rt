@@ -1,10 +1,11 @@
 ghost use mathlib.Core.Path.{_≡_};
+ghost use mathlib.Core.Bool.{true};
 ghost use Prim.Native.Nat.{_<_};
 ghost use lib.ListN.{length};
 ghost use Rattle.model.specs.Site.{tableAt};
-ghost use Rattle.model.specs.Tables.{kindCount, kindAt, semiJoin};
+ghost use Rattle.model.specs.Tables.{kindCount, kindAt, semiJoin, isStored};
 ghost use Rattle.model.specs.Store.{decoded};
-ghost use Rattle.checking.specs.Lookups.{Passed, placeOf};
+ghost use Rattle.checking.specs.Lookups.{Passed, placeOf, RowsAt};
 use tables::kinds::KINDS;
 
 // The place of a predicate among the declared ones.
@@ -50,4 +51,22 @@ pub fn semi_join_rows(w: &[u32], i: usize, j: usize, k: usize) -> usize
 {
     let count = w[0] as usize;
     w[3 + 3 * count + 2 * ((i * count + j) * KINDS + k)] as usize
+}
+
+// Where the rows of the predicate at place i start.
+pub fn table_start(w: &[u32], i: usize) -> usize
+    requires { ⌜ Passed (now w) × (i < length (decoded (now w) .site)) ⌝ }
+    ensures { λ r. ⌜ RowsAt (now (w .entry)) r (tableAt (decoded (now (w .entry)) .site) i .rows) ⌝ }
+{
+    w[3 + 3 * i + 2] as usize
+}
+
+// Where the rows start that kind k of the predicate at place i against the one at place j leaves, if they are stored.
+pub fn semi_join_start(w: &[u32], i: usize, j: usize, k: usize) -> usize
+    requires { ⌜ Passed (now w) × (i < length (decoded (now w) .site)) × (j < length (decoded (now w) .site)) × (k < kindCount) ⌝ }
+    requires { ⌜ isStored (decoded (now w) .threshold) (length (semiJoin (kindAt k) (tableAt (decoded (now w) .site) i .rows) (tableAt (decoded (now w) .site) j .rows))) (length (tableAt (decoded (now w) .site) i .rows)) ≡ true ⌝ }
+    ensures { λ r. ⌜ RowsAt (now (w .entry)) r (semiJoin (kindAt k) (tableAt (decoded (now (w .entry)) .site) i .rows) (tableAt (decoded (now (w .entry)) .site) j .rows)) ⌝ }
+{
+    let count = w[0] as usize;
+    w[3 + 3 * count + 2 * ((i * count + j) * KINDS + k) + 1] as usize
 }

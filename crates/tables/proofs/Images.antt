@@ -85,7 +85,8 @@ pub record TableIn (image : List ℕ) (place : ℕ) (rows : List Row) : Type 0 w
   pub inside : getD image (place + 2) 0 + 2 * getD image (place + 1) 0 ≤ length image
   pub back : rowsIn (getD image (place + 1) 0) (drop (getD image (place + 2) 0) image) ≡ rows
 
-block-inside : {l b : List ℕ} {i : ℕ} → Block l i b → i + length b ≤ length l
+-- a block stands inside
+pub block-inside : {l b : List ℕ} {i : ℕ} → Block l i b → i + length b ≤ length l
 block-inside {l} {b} x =
     let e = ap length (x .whole) ∙ length-append (x .before) (b ++ x .after) in
     let f = length-append b (x .after) in

@@ -1,5 +1,5 @@
 -- The first word of a semi-join's entry.
-use Prim.Native.Nat.{_<_}
+use Prim.Native.Nat.{_+_, _<_}
 use native.Mathlib.Nat.{add-assoc}
 use native.Mathlib.Omega.{arith}
 use lib.ListN.{length, getD}
@@ -9,7 +9,7 @@ use Rattle.checking.proofs.Lookups.{front-inside, join-inside, join-row
 use Rattle.checking.proofs.lookup.semi_join_rows.Statement.{statement}
 use Rattle.checking.proofs.lookup.semi_join_rows.Tie as tie
 
-inside : (c : tie.Start) → semiJoinEntryAt (getD (c .args .w .now) 0 0) (c .args .i) (c .args .j) (c .args .k) < length (c .args .w .now)
+inside : (c : tie.Start) → semiJoinEntryAt (getD (c .args .w .now) 0 0) (c .args .i) (c .args .j) (c .args .k) + 1 < length (c .args .w .now)
 inside c = let (passed, hi, hj, hk) = c .pre in join-inside _ passed _ hi _ _ hj hk
 
 shared-slice-read-count : tie.Need-shared-slice-read-count
