@@ -3,10 +3,10 @@ use Prim.Native.Nat.{ℕ, suc, _+_, _*_, _%_, _≤_, _<_}
 use native.Mathlib.Numerals.{add-one, one-add}
 use native.Mathlib.Omega.{arith}
 use mathlib.Core.Path.{_≡_, refl, sym, ap, _∙_}
-use mathlib.Core.Bool.{Bool, true, false, cond, _&&_, not}
+use mathlib.Core.Bool.{Bool, true, false, cond, _&&_}
 use mathlib.Core.List.{[], _∷_, _++_, append-nil}
 use lib.ListN.{length}
-use lib.Dec.{eqb, ltb}
+use lib.Dec.{ltb}
 use borrow.Author.Tests.{lt-ltb, le-ltb}
 use Rattle.model.specs.Lists.{keep, below}
 use Rattle.model.specs.Site.{Site, isSite, mostRows, noTable, tableAt}
@@ -25,7 +25,7 @@ use Rattle.model.proofs.Partition.{proper, vp-table}
 use Rattle.model.proofs.Places.{qualifying}
 use Rattle.tables.proofs.Entries.{keep-fewer, table-fewer}
 use Rattle.planning.specs.Members.{memberAt, patternIn, TableOf, PatternCells, PatternHolds}
-use Rattle.planning.specs.Choices.{chooseableTable}
+use Rattle.planning.specs.Choices.{qualifiesBy, chooseableTable}
 use Rattle.planning.specs.declared.pattern.Member.{Member}
 use Rattle.planning.specs.declared.pattern.Pattern.{Pattern as Members}
 use Rattle.planning.specs.declared.choosing.Chooseable.{Chooseable}
@@ -36,7 +36,7 @@ use Rattle.planning.proofs.MemberLaws.{pattern-length, triple-member}
 
 module _ (site : Site) (yes-site : isSite site ≡ true) where
   -- the VP table of a predicate is the one at its place
-  member-table : {m : Member} → TableOf site m → predicateTable site (m .triple .predicate) ≡ tableAt site (m .table) .rows
+  pub member-table : {m : Member} → TableOf site m → predicateTable site (m .triple .predicate) ≡ tableAt site (m .table) .rows
   member-table {m} t = rw (t .predicate) (vp-table site (tableAt site (m .table)) yes-site (at-place site noTable (m .table) (t .inside)))
 
   pub table-few : (i : ℕ) → length (tableAt site i .rows) ≤ mostRows
@@ -56,15 +56,15 @@ pub same-named : {r : Bool} {x y : Position} {own other : Column} (k : Kind) (q 
 same-named k q s e p u p′ u′ = e ∙ rw (p, u, p′, u′) refl
 
 -- by its tests, and by what is read of the store: the threshold, the rows left and the rows of the full table
-pub open-by : {store : Store} {a b : Member} (i j k : ℕ) {t n m : ℕ} {itself shared stored : Bool}
+pub open-by : {store : Store} {a b : Member} (i j k : ℕ) {t n m : ℕ} {named stored : Bool}
     → isSite (store .site) ≡ true → TableOf (store .site) a → TableOf (store .site) b
     → t ≡ store .threshold → n ≡ length (semiJoin (kindAt k) (tableAt (store .site) (a .table) .rows) (tableAt (store .site) (b .table) .rows))
     → m ≡ length (tableAt (store .site) (a .table) .rows)
-    → eqb i j ≡ itself → sameVariable (positionAt (kindAt k .0) (a .triple)) (positionAt (kindAt k .1) (b .triple)) ≡ shared → isStored t n m ≡ stored
-    → chooseableTable store a i b j k ≡ cond ((not itself && shared) && stored) (Rows n) Nothing
+    → qualifiesBy (a .triple) i (b .triple) j k ≡ named → isStored t n m ≡ stored
+    → chooseableTable store a i b j k ≡ cond (named && stored) (Rows n) Nothing
 unfolding chooseableTable
-open-by {store} i j k yes-site own other et en em ei es ek =
-    rw (member-table (store .site) yes-site own, member-table (store .site) yes-site other, ← et, ← en, ← em, ei, es, ek) refl
+open-by {store} i j k yes-site own other et en em es ek =
+    rw (member-table (store .site) yes-site own, member-table (store .site) yes-site other, ← et, ← en, ← em, es, ek) refl
 
 -- the table that a choice names, given without its 1
 abbrev pub chooseableAt : Store → Members → ℕ → ℕ → Chooseable

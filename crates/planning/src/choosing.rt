@@ -6,7 +6,7 @@ ghost use Rattle.model.specs.Planner.{chooseTable, chosenRows};
 ghost use Rattle.model.specs.Store.{decoded};
 ghost use Rattle.checking.specs.Lookups.{Passed};
 ghost use Rattle.planning.specs.Members.{patternIn, TableOf, PatternHolds};
-ghost use Rattle.planning.specs.Choices.{chooseableTable};
+ghost use Rattle.planning.specs.Choices.{qualifiesBy, chooseableTable};
 use crate::pattern::Member;
 use crate::pattern::Pattern;
 use crate::positions::position_at;
@@ -14,10 +14,24 @@ use crate::positions::same_variable;
 use checking::lookup::semi_join_rows;
 use checking::lookup::table_rows;
 use checking::lookup::threshold;
+use model::pattern::TriplePattern;
 use tables::kinds::KINDS;
 use tables::kinds::is_stored;
 use tables::kinds::own_column;
 use tables::kinds::partner_column;
+
+// Kind k of q at place i qualifies against r at place j: the named positions hold the same variable.
+pub fn qualifies(q: TriplePattern, i: usize, r: TriplePattern, j: usize, k: usize) -> bool
+    requires { ⌜ k < kindCount ⌝ }
+    ensures { λ b. ⌜ b ≡ qualifiesBy q i r j k ⌝ }
+{
+    if i == j {
+        return false;
+    }
+    let own = position_at(q, own_column(k));
+    let other = position_at(r, partner_column(k));
+    same_variable(own, other)
+}
 
 // The rows of a table that may be chosen, or that it may not.
 pub enum Chooseable {
@@ -30,9 +44,7 @@ pub fn reduced_table(w: &[u32], a: Member, i: usize, b: Member, j: usize, k: usi
     requires { ⌜ Passed (now w) × TableOf (decoded (now w) .site) a × TableOf (decoded (now w) .site) b × (k < kindCount) ⌝ }
     ensures { λ r. ⌜ r ≡ chooseableTable (decoded (now (w .entry))) a i b j k ⌝ }
 {
-    let own = position_at(a.triple, own_column(k));
-    let other = position_at(b.triple, partner_column(k));
-    if i == j || !same_variable(own, other) {
+    if !qualifies(a.triple, i, b.triple, j, k) {
         return Chooseable::Nothing;
     }
     let rows = semi_join_rows(w, a.table, b.table, k);

@@ -1,7 +1,6 @@
 -- The first that is true, or the last.
 use mathlib.Core.Path.{refl, sym}
 use mathlib.Core.Bool.{or-false}
-use borrow.Author.Needs.{needs}
 use Rattle.planning.proofs.positions.any_of.Statement.{statement}
 use Rattle.planning.proofs.positions.any_of.Tie as tie
 
