@@ -37,10 +37,10 @@ pub length-countUp : (a k : ℕ) → length (countUp a k) ≡ k
 length-countUp a zero = refl
 length-countUp a (suc k) = ap suc (length-countUp (suc a) k)
 
-pub getD-countUp : (f : ℕ → ℕ) (a k v : ℕ) → v < k → getD (map f (countUp a k)) v 0 ≡ f (a + v)
-getD-countUp f a zero v h = absurd (omega arith)
-getD-countUp f a (suc k) zero h = ap f (omega arith)
-getD-countUp f a (suc k) (suc v) h = getD-countUp f (suc a) k v (omega arith) ∙ ap f (omega arith)
+pub getD-countUp : {A : Type 0} (f : ℕ → A) (a k v : ℕ) (d : A) → v < k → getD (map f (countUp a k)) v d ≡ f (a + v)
+getD-countUp f a zero v d h = absurd (omega arith)
+getD-countUp f a (suc k) zero d h = ap f (omega arith)
+getD-countUp f a (suc k) (suc v) d h = getD-countUp f (suc a) k v d (omega arith) ∙ ap f (omega arith)
 
 pub countUp-ascends : (a k : ℕ) → ascends ltb (countUp a k) ≡ true
 countUp-ascends a zero = refl

@@ -1,0 +1,9 @@
+-- Laws that the proofs of this crate cite.
+pub mod PartialCells
+pub mod JoinFrom
+pub mod JoinWords
+pub mod EmptyTables
+pub mod Exchanges
+pub mod RowWords
+pub mod Sinking
+pub mod HeapSort
