@@ -57,6 +57,7 @@ pub fn semi_join_rows(w: &[u32], i: usize, j: usize, k: usize) -> usize
 pub fn table_start(w: &[u32], i: usize) -> usize
     requires { ⌜ Passed (now w) × (i < length (decoded (now w) .site)) ⌝ }
     ensures { λ r. ⌜ RowsAt (now (w .entry)) r (tableAt (decoded (now (w .entry)) .site) i .rows) ⌝ }
+    ensures { λ r. ⌜ r < 4294967296 ⌝ }
 {
     w[3 + 3 * i + 2] as usize
 }
@@ -66,6 +67,7 @@ pub fn semi_join_start(w: &[u32], i: usize, j: usize, k: usize) -> usize
     requires { ⌜ Passed (now w) × (i < length (decoded (now w) .site)) × (j < length (decoded (now w) .site)) × (k < kindCount) ⌝ }
     requires { ⌜ isStored (decoded (now w) .threshold) (length (semiJoin (kindAt k) (tableAt (decoded (now w) .site) i .rows) (tableAt (decoded (now w) .site) j .rows))) (length (tableAt (decoded (now w) .site) i .rows)) ≡ true ⌝ }
     ensures { λ r. ⌜ RowsAt (now (w .entry)) r (semiJoin (kindAt k) (tableAt (decoded (now (w .entry)) .site) i .rows) (tableAt (decoded (now (w .entry)) .site) j .rows)) ⌝ }
+    ensures { λ r. ⌜ r < 4294967296 ⌝ }
 {
     let count = w[0] as usize;
     w[3 + 3 * count + 2 * ((i * count + j) * KINDS + k) + 1] as usize

@@ -30,7 +30,7 @@ position-number n = go (eqb (n % 2) 0) refl
     go true e = let h = eqb-true (n % 2) 0 e in omega arith
     go false e = let h = eqb-false (n % 2) 0 e in omega arith
 
-position-back : (x : Position) → positionOf (positionNumber x) ≡ x
+pub position-back : (x : Position) → positionOf (positionNumber x) ≡ x
 position-back (Term t) =
     let h : 2 * t / 2 ≡ t = omega arith in
     rw (eq-eqb (2 * t % 2) 0 (omega arith), h) refl

@@ -7,3 +7,5 @@ pub mod Exchanges
 pub mod RowWords
 pub mod Sinking
 pub mod HeapSort
+pub mod StepNumbers
+pub mod PlanJoin

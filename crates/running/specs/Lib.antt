@@ -5,3 +5,4 @@ pub mod Results
 pub mod Emptiness
 pub mod Rows
 pub mod Heaps
+pub mod Chosen

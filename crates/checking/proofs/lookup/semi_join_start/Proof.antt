@@ -55,7 +55,8 @@ cast-result : tie.Need-cast-result
 cast-result c = fits-widen tt (c .shared-slice-known2 .given _)
 
 returns : tie.Need-returns
-returns c = let ((passed, hi, hj, hk), stored) = c .before .before .pre in rw (add-assoc 3 _ _) (join-rows-at _ passed _ hi _ _ hj hk stored)
+returns c = let ((passed, hi, hj, hk), stored) = c .before .before .pre in
+    (rw (add-assoc 3 _ _) (join-rows-at _ passed _ hi _ _ hj hk stored), c .shared-slice-known2 .given _ .fits)
 
 pub semi-join-start-spec : {M : Type 1} → statement M
 semi-join-start-spec =

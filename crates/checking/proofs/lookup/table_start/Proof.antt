@@ -30,7 +30,8 @@ cast-result : tie.Need-cast-result
 cast-result c = fits-widen tt (c .shared-slice-known .given _)
 
 returns : tie.Need-returns
-returns c = table-rows-at _ (c .before .pre .0) (c .before .args .i) (c .before .pre .1)
+returns c =
+    (table-rows-at _ (c .before .pre .0) (c .before .args .i) (c .before .pre .1), omega (arith, c .shared-slice-known .given (vpEntryAt (c .before .args .i) + 2)))
 
 pub table-start-spec : {M : Type 1} → statement M
 table-start-spec =
