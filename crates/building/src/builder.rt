@@ -2,7 +2,7 @@ ghost use mathlib.Core.Path.{_≡_};
 ghost use Prim.Native.Nat.{_<_, _≤_, _+_, _*_};
 ghost use lib.ListN.{length, take};
 ghost use lib.Seq.{sets};
-ghost use Rattle.model.specs.Tables.{kindCount, mostThreshold};
+ghost use Rattle.model.specs.Tables.{mostThreshold};
 ghost use Rattle.model.specs.Store.{semiJoins, semiJoinEntries, storedStart, keptWords, layout};
 ghost use Rattle.model.specs.Calls.{outcome, filled, build as buildOutcome};
 ghost use Rattle.tables.specs.SiteWords.{siteIn, ImageOf, CountsIn};

@@ -11,35 +11,26 @@ use Rattle.model.specs.declared.pattern.Position.the-variants.{Term, Var}
 use borrow.Author.Needs.{needs}
 use Rattle.planning.proofs.positions.term_count.Statement.{statement}
 use Rattle.planning.proofs.positions.term_count.Tie as tie
-use Rattle.planning.proofs.positions.term_count.Reads as reads
-use Rattle.planning.proofs.positions.term_count.Lts as lts
-use Rattle.planning.proofs.positions.fixed.Reads as fixed-reads
 
 one-more : (x : Position) (xs : List Position) → length (keep isFixed (x ∷ xs)) ≡ length (keep isFixed (x ∷ [])) + length (keep isFixed xs)
 one-more (Term t) xs = omega arith
 one-more (Var v) xs = omega arith
 
--- src/positions.rt:114:5
 fixed-requires : tie.Need-fixed-requires
 fixed-requires c κs = search needs
 
--- src/positions.rt:114:22
 fixed-requires-2 : tie.Need-fixed-requires-2
 fixed-requires-2 c κs = search needs
 
--- src/positions.rt:114:5
 add-result : tie.Need-add-result
 add-result c = search needs
 
--- src/positions.rt:114:41
 fixed-requires-3 : tie.Need-fixed-requires-3
 fixed-requires-3 c κs = search needs
 
--- src/positions.rt:114:5
 add-result-2 : tie.Need-add-result-2
 add-result-2 c = search needs
 
--- src/positions.rt:108:1
 returns : tie.Need-returns
 returns c = let q = c .before .before .before .args .q in
     rw (c .before .before .fixed .ensures .0, c .before .fixed2 .ensures .0, c .fixed3 .ensures .0)
