@@ -29,7 +29,7 @@ with-grows : (n : ℕ) (x : Position) → n ≤ variablesWith n x
 with-grows n (Term t) = omega arith
 with-grows n (Var v) = omega arith
 
-variables-grow : (n : ℕ) (xs : List Position) → n ≤ variables n xs
+pub variables-grow : (n : ℕ) (xs : List Position) → n ≤ variables n xs
 unfolding variables
 variables-grow n [] = omega arith
 variables-grow n (x ∷ xs) = omega (arith, with-grows n x, variables-grow (variablesWith n x) xs)

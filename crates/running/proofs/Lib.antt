@@ -9,3 +9,7 @@ pub mod Sinking
 pub mod HeapSort
 pub mod StepNumbers
 pub mod PlanJoin
+pub mod Variables
+pub mod RowResults
+pub mod PlanRows
+pub mod RunReplies
