@@ -1,5 +1,5 @@
 ghost use mathlib.Core.Path.{_≡_};
-ghost use Rattle.model.specs.Calls.{outcome, build as buildOutcome, plan as planAnswer};
+ghost use Rattle.model.specs.Calls.{outcome, build as buildOutcome, plan as planAnswer, run as runOutcome};
 use model::answer::Answer;
 use model::answer::Planned;
 
@@ -15,4 +15,11 @@ pub fn plan(store: &[u32], pattern: &[u8]) -> Planned
     ensures { λ r. ⌜ r ≡ planAnswer (now (store .entry)) (now (pattern .entry)) ⌝ }
 {
     planning::planner::plan(store, pattern)
+}
+
+// Runs a given plan of a check over a store: Rows with their count and width, None, or a refusal 10 to 21; only Rows alters the rows' memory.
+pub fn run(store: &[u32], pattern: &[u8], plan: &[u8], rows: &mut [u32]) -> Answer
+    ensures { λ r. ⌜ outcome r (now (rows .exit)) ≡ runOutcome (now (store .entry)) (now (pattern .entry)) (now (plan .entry)) (now (rows .entry)) ⌝ }
+{
+    running::runner::run(store, pattern, plan, rows)
 }

@@ -1,8 +1,9 @@
 ghost use mathlib.Core.Path.{_≡_};
 ghost use mathlib.Core.List.{[]};
-ghost use Rattle.model.specs.Calls.{numberOf, valuesOf, planBytesOf, planNumbers, build as buildOutcome, plan as planAnswer};
+ghost use Rattle.model.specs.Calls.{numberOf, valuesOf, planBytesOf, planNumbers, build as buildOutcome, plan as planAnswer, run as runOutcome};
 use crate::calls::build;
 use crate::calls::plan;
+use crate::calls::run;
 use crate::report::report;
 use planning::steps::no_plan;
 
@@ -44,4 +45,22 @@ pub extern "C" fn closing_plan(
         *steps = all;
     }
     number
+}
+
+// `run` for C: returns 0, or the refusal's number and then neither the rows nor the answer is altered.
+#[no_mangle]
+pub extern "C" fn closing_run(
+    store: &[u32],
+    pattern: &[u8],
+    plan: &[u8],
+    rows: &mut [u32],
+    answer: &mut [u64; 4],
+) -> u32
+    ensures { λ r. ⌜ r ≡ numberOf (runOutcome (now (store .entry)) (now (pattern .entry)) (now (plan .entry)) (now (rows .entry)) .answer) ⌝ }
+    ensures { λ _. ⌜ now (rows .exit) ≡ runOutcome (now (store .entry)) (now (pattern .entry)) (now (plan .entry)) (now (rows .entry)) .memory ⌝ }
+    ensures { λ _. ⌜ now (answer .exit) ≡ valuesOf (runOutcome (now (store .entry)) (now (pattern .entry)) (now (plan .entry)) (now (rows .entry)) .answer) (planNumbers []) (now (answer .entry)) ⌝ }
+{
+    let found = run(store, pattern, plan, rows);
+    let none = no_plan();
+    report(found, none, answer)
 }

@@ -1,8 +1,5 @@
--- The wrapper reports the outcome of the call: its number, the memory, and the values.
-use mathlib.Core.Path.{ap, _∙_}
-use mathlib.Core.List.{[]}
 use borrow.Author.Needs.{needs}
-use Rattle.model.specs.Calls.{Outcome, numberOf, valuesOf, planNumbers}
+use Rattle.closing.proofs.Reported.{reported}
 use Rattle.closing.proofs.exports.closing_build.Statement.{statement}
 use Rattle.closing.proofs.exports.closing_build.Tie as tie
 
@@ -19,13 +16,7 @@ same-length : tie.Need-same-length
 same-length c = search needs
 
 returns : tie.Need-returns
-returns c =
-    let made = c .before .before .before .before .before .build .ensures in
-    let start = c .before .before .before .before .before .before .before .before .before in
-    let told = rw (c .before .before .no-plan .ensures) at (c .report .ensures) in (
-      told .0 ∙ ap (λ (o : Outcome). numberOf (o .answer)) made,
-      (ap (λ (o : Outcome). o .memory) made, told .1 ∙ ap (λ (o : Outcome). valuesOf (o .answer) (planNumbers []) (start .args .answer .now)) made),
-    )
+returns c = reported _ (c .before .before .before .before .before .build .ensures) (c .before .before .no-plan .ensures) (c .report .ensures)
 
 pub closing-build-spec : {M : Type 1} → statement M
 closing-build-spec =
