@@ -1,16 +1,17 @@
 -- What is promised of the definitions: the three demands and what they lean on, each a named statement with its proof under it.
 use Prim.Native.Nat.{ℕ, _+_, _*_, _≤_, _<_}
 use native.Mathlib.Omega.{arith}
-use mathlib.Core.Path.{_≡_, refl, subst}
+use mathlib.Core.Path.{_≡_, refl, sym, ap, _∙_, subst}
 use mathlib.Core.Logic.{_⊎_, inl, inr, ⊎-elim, _↔_}
 use mathlib.Core.Bool.{Bool, true, false, cond}
-use mathlib.Core.Option.{some}
+use mathlib.Core.Option.{Option, some, Option·getD}
 use mathlib.Core.List.{List, [], _∷_, _++_, map, List·Memᴰ·tail, List·Memᴰ·not-nil}
 use lib.ListN.{length, getD, take, drop, replicate}
 use lib.Dec.{ltb, leb}
 use borrow.Author.Tests.{ltb-true, lt-ltb, leb-true}
 use Rattle.model.specs.Lists.{_∈_, ascends, each, keep, below, wordsBefore}
 use Rattle.model.specs.Reader.{gives}
+use Rattle.model.specs.Numbers.{areBytes}
 use Rattle.model.specs.Site.{Row, rowBefore, Site, isSite, IsFact, noTable, tableAt}
 use Rattle.model.specs.SiteFile.{readSite, siteBytes}
 use Rattle.model.specs.Tables.{vp, at, Kind, semiJoin, kindAt, kindCount, mostThreshold, isStored}
@@ -23,6 +24,7 @@ use Rattle.model.specs.Planner.{tableRows, chooseTable, isJoined, planne
 use Rattle.model.specs.Solutions.{IsSolution, solutions}
 use Rattle.model.specs.Join.{joinRows}
 use Rattle.model.specs.Calls.{Outcome, outcome, over, unaltered, build, withPlan, plan, noneByCounts, rowsOutcome, run}
+use Rattle.model.specs.Chain.{chainThreshold, chainStoreWords, isRefused, unlessRefused, stepBytes, planAndRun, chain, NoMatch}
 use Rattle.model.specs.declared.answer.Answer.the-variants.{Rows, None, Built, Refused}
 use Rattle.model.specs.declared.answer.Answer.the-variants.{Plan as PlanAnswer}
 use Rattle.model.specs.declared.answer.Planned.{Planned}
@@ -46,6 +48,7 @@ use Rattle.model.proofs.Ordering.{Competes, Precedes, picks}
 use Rattle.model.proofs.ProperPlan.{planned-proper}
 use Rattle.model.proofs.Refusals.{Between, site-refuses, pattern-refuses, plan-refuses}
 use Rattle.model.proofs.Calls.{by-reply, by-question, by-store, wider, none-by-counts}
+use Rattle.model.proofs.ChainRows.{chain-solutions}
 use Rattle.model.proofs.Cases.{cases, worked}
 
 -- ==== Demand 1. Each call, on all bytes and words whatsoever, answers with what it was called for (tables, a plan, rows or none) or
@@ -134,6 +137,9 @@ None-Is-Whole =
     (words bytes steps memory : List ℕ) → run words bytes steps memory .answer ≡ None
     → (c : Accepted words bytes) × ((row : List ℕ) → IsSolution (c .store .site) (c .pattern) row → ⊥)
 
+refused-not-none : {X : Type 0} {n : ℕ} → Refused n ≡ None → X
+refused-not-none h = let z : _≡_ {A = ℕ} 0 1 = cc in absurd (omega arith)
+
 pub none-is-whole : None-Is-Whole
 none-is-whole words bytes steps memory h = go (demand-1-run words bytes steps memory) h
   where
@@ -142,6 +148,54 @@ none-is-whole words bytes steps memory h = go (demand-1-run words bytes steps me
     go (inl x) k = let e = x .2 in let z : _≡_ {A = ℕ} 0 1 = cc in absurd (omega arith)
     go (inr (inl x)) k = (x .0, x .2)
     go (inr (inr x)) k = let e = x .2 in let z : _≡_ {A = ℕ} 0 1 = cc in absurd (omega arith)
+
+-- The chain that says 'none' read a file that is, to its last byte, what is written for a site, and that whole site holds no match.
+abbrev pub Chain-None-Is-Whole : Type 0
+Chain-None-Is-Whole = (file check memory : List ℕ) → areBytes file ≡ true → chain file check memory .answer ≡ None → NoMatch file check
+
+pub chain-none-is-whole : Chain-None-Is-Whole
+unfolding chain isRefused planAndRun
+chain-none-is-whole file check memory bytes h = at-build (demand-1-build chainThreshold file own) h
+  where
+    own : List ℕ
+    own = replicate chainStoreWords 0
+
+    at-plan : (site : Site) → readSite file ≡ gives site → {words : List ℕ} → Holds words chainThreshold site
+        → {o : Planned} → PlanCallAnswer words check o
+        → unlessRefused (o .answer) memory (run words check (stepBytes (o .plan)) memory) .answer ≡ None → NoMatch file check
+    at-plan site read holds (inl x) k = refused-not-none (rw (x .2) at k)
+    at-plan site read {words} holds (inr x) k =
+        let none = none-is-whole words check _ memory (rw (x .1) at k) in
+        let c = none .0 in
+        let same : site ≡ c .store .site =
+        ap (λ (x : Option Store). Option·getD x (storeAt 0 []) .site)
+        (sym (store-complete words chainThreshold site holds) ∙ store-complete words (c .store .threshold) (c .store .site) (c .holds)) in
+        record {
+          site = site;
+          proper = holds .proper;
+          written = site-file .2 file site bytes read;
+          pattern = c .pattern;
+          accepted = rw same (c .read);
+          no-solution = rw same (none .1);
+        }
+
+    at-build : {o : Outcome} → BuildAnswer chainThreshold file own o
+        → unlessRefused (o .answer) memory (planAndRun (o .memory) check memory) .answer ≡ None → NoMatch file check
+    at-build (inl x) k = refused-not-none (rw (x .2) at k)
+    at-build (inr x) k =
+        let site = x .0 in
+        let words = over (layout chainThreshold site) own in
+        at-plan site (x .2) (built-holds chainThreshold site _ (x .1) (site-file .0 file site (x .2))) (demand-1-plan words check) (rw (x .3) at k)
+
+-- And of a site that was read and fits, and a check that is accepted, the chain answers by the solutions.
+abbrev pub Chain-Answers-Solutions : Type 0
+Chain-Answers-Solutions =
+    (file check memory : List ℕ) (site : Site) (pattern : Pattern)
+    → readSite file ≡ gives site → length (layout chainThreshold site) ≤ chainStoreWords → readPattern site check ≡ gives pattern
+    → chain file check memory ≡ rowsOutcome (width pattern) (solutions site pattern) memory
+
+pub chain-answers-solutions : Chain-Answers-Solutions
+chain-answers-solutions = chain-solutions
 
 -- ==== Demand 2. The answer to an accepted check holds exactly the solutions of its basic graph pattern over the site, as SPARQL 1.1
 -- defines them, each once, in ascending order; and the tables hold exactly the semi-joins of the S2RDF paper.

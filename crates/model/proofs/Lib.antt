@@ -29,4 +29,5 @@ pub mod Refusals
 pub mod Width
 pub mod Calls
 pub mod Cases
+pub mod ChainRows
 pub mod Demands

@@ -14,3 +14,4 @@ pub mod Planner
 pub mod Solutions
 pub mod Join
 pub mod Calls
+pub mod Chain

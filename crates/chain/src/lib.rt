@@ -1,0 +1,2 @@
+// What the check program runs: builds, plans, runs that plan.
+pub mod check;

@@ -1,0 +1,113 @@
+-- On a site that was read and fits, and a check that is accepted, the chain answers by the solutions: the plan that it runs is the
+-- planner's, whose numbers are its bytes, so questions 18 to 20 are never answered no.
+use Prim.Native.Nat.{ℕ, zero, suc, _*_, _≤_, _<_}
+use native.Mathlib.Omega.{arith}
+use mathlib.Core.Path.{_≡_, refl, sym, ap, _∙_}
+use mathlib.Core.Bool.{Bool, true, false, cond}
+use mathlib.Core.List.{List, [], _∷_, _++_}
+use lib.ListN.{length, take, drop, replicate, length-replicate}
+use lib.Dec.{leb, eqb}
+use borrow.Author.Tests.{ltb-true, lt-ltb, le-leb, eqb-true}
+use Rattle.model.specs.Lists.{all, each}
+use Rattle.model.specs.Numbers.{bytesWithin, numberBytes}
+use Rattle.model.specs.Reader.{gives}
+use Rattle.model.specs.Site.{Site}
+use Rattle.model.specs.SiteFile.{readSite}
+use Rattle.model.specs.Store.{Store, storeAt, layout, Holds}
+use Rattle.model.specs.Pattern.{Pattern, mostTriplePatterns, width, isAccepted}
+use Rattle.model.specs.PatternFile.{readPattern}
+use Rattle.model.specs.Plan.{Plan, partner, kindOf, qualifies, isPlace, isStep, mayChoose, isProper}
+use Rattle.model.specs.PlanFile.{stepNumbers, planBytes}
+use Rattle.model.specs.Planner.{planned}
+use Rattle.model.specs.Solutions.{solutions}
+use Rattle.model.specs.Calls.{outcome, either, build, planNumbers, plan, noneByCounts, rowsOutcome, run}
+use Rattle.model.specs.Chain.{chainThreshold, chainStoreWords, isRefused, unlessRefused, stepBytes, planAndRun, chain}
+use Rattle.model.specs.declared.answer.Answer.the-variants.{None}
+use Rattle.model.proofs.Booleans.{and-cases}
+use Rattle.model.proofs.Patterns.{pattern-limit}
+use Rattle.model.proofs.Places.{qualifying}
+use Rattle.model.proofs.SiteFile.{site-file}
+use Rattle.model.proofs.PatternFile.{pattern-accepted}
+use Rattle.model.proofs.PlanFile.{plan-file}
+use Rattle.model.proofs.Stores.{store-complete, built-holds}
+use Rattle.model.proofs.ProperPlan.{planned-proper}
+use Rattle.model.proofs.Calls.{none-by-counts}
+
+-- ---- the numbers of a proper plan are its bytes
+
+-- a number below 128 is one byte
+one-byte : (n : ℕ) → n < 128 → numberBytes n ≡ n ∷ []
+unfolding numberBytes bytesWithin
+one-byte n h = rw (lt-ltb n 128 h) refl
+
+front : (xs rest : List ℕ) (n : ℕ) → length xs ≤ n → take (length xs) (take n (xs ++ rest)) ≡ xs
+front [] rest n h = refl
+front (x ∷ xs) rest zero h = absurd (omega arith)
+front (x ∷ xs) rest (suc n) h = ap (λ (l : List ℕ). x ∷ l) (front xs rest n (omega arith))
+
+numbers-length : (plan : Plan) → length (each stepNumbers plan) ≡ 2 * length plan
+numbers-length [] = refl
+numbers-length (x ∷ xs) = let e = numbers-length xs in omega arith
+
+module _ (store : Store) (pattern : Pattern) (few : length pattern ≤ mostTriplePatterns) where
+  choice-small : (i c : ℕ) → mayChoose store pattern i c ≡ true → c < 128
+  unfolding mayChoose
+  choice-small i zero h = omega arith
+  choice-small i (suc c) h =
+      let q = qualifying pattern i (partner c) (kindOf c) (and-cases (qualifies pattern i (partner c) (kindOf c)) _ h .0) .there in
+      omega arith
+
+  steps-bytes : (plan : Plan) → all (isStep store pattern) plan ≡ true → planBytes plan ≡ each stepNumbers plan
+  unfolding planBytes
+  steps-bytes [] h = refl
+  steps-bytes (x ∷ xs) h =
+      let c = and-cases (isStep store pattern x) (all (isStep store pattern) xs) h in
+      let d = and-cases (isPlace pattern (x .place)) (mayChoose store pattern (x .place) (x .choice)) (c .0) in
+      let place : x .place < 128 = let l = ltb-true (x .place) (length pattern) (d .0) in omega arith in
+      rw (one-byte (x .place) place, one-byte (x .choice) (choice-small (x .place) (x .choice) (d .1)), steps-bytes xs (c .1)) refl
+
+  pub proper-bytes : (plan : Plan) → isProper store pattern plan ≡ true → stepBytes (planNumbers plan) ≡ planBytes plan
+  unfolding isProper
+  proper-bytes plan h =
+      let c = and-cases (eqb (length plan) (length pattern)) _ h in
+      let same = eqb-true (length plan) (length pattern) (c .0) in
+      let all-steps = and-cases (all (isStep store pattern) plan) _ (c .1) .0 in
+      rw (← numbers-length plan)
+      (front (each stepNumbers plan) _ (2 * mostTriplePatterns) (rw (numbers-length plan) (omega arith)))
+      ∙ sym (steps-bytes plan all-steps)
+
+-- ---- the chain
+
+module _ (site : Site) (check memory : List ℕ) (pattern : Pattern) (read : readPattern site check ≡ gives pattern) where
+  accepted : isAccepted site pattern ≡ true
+  accepted = pattern-accepted site check pattern read
+
+  by-counts : (b : Bool) → noneByCounts site pattern ≡ b
+      → cond b (outcome None memory) (rowsOutcome (width pattern) (solutions site pattern) memory) ≡ rowsOutcome (width pattern) (solutions site pattern) memory
+  unfolding rowsOutcome
+  by-counts true e = rw (none-by-counts site pattern accepted e) refl
+  by-counts false e = refl
+
+  store-runs : (t : ℕ) (words : List ℕ) → Holds words t site → planAndRun words check memory ≡ rowsOutcome (width pattern) (solutions site pattern) memory
+  unfolding planAndRun isRefused plan run either
+  store-runs t words holds =
+      let store = storeAt t site in
+      let decodes = store-complete words t site holds in
+      let few = pattern-limit site pattern accepted in
+      let proper = planned-proper store pattern in
+      let back = plan-file store pattern few .1 (planned store pattern) proper .1 in
+      rw (decodes, read, proper-bytes store pattern few (planned store pattern) proper, back) (by-counts (noneByCounts site pattern) refl)
+
+pub chain-solutions : (file check memory : List ℕ) (site : Site) (pattern : Pattern) → readSite file ≡ gives site
+    → length (layout chainThreshold site) ≤ chainStoreWords → readPattern site check ≡ gives pattern
+    → chain file check memory ≡ rowsOutcome (width pattern) (solutions site pattern) memory
+unfolding chain isRefused build either
+chain-solutions file check memory site pattern whole fits read = go (replicate chainStoreWords 0) (length-replicate {A = ℕ} chainStoreWords 0)
+  where
+    go : (own : List ℕ) → length own ≡ chainStoreWords
+        → unlessRefused (build chainThreshold file own .answer) memory (planAndRun (build chainThreshold file own .memory) check memory)
+        ≡ rowsOutcome (width pattern) (solutions site pattern) memory
+    go own l =
+        let room : leb (length (layout chainThreshold site)) (length own) ≡ true = le-leb (length (layout chainThreshold site)) (length own) (rw l fits) in
+        let holds = built-holds chainThreshold site (drop (length (layout chainThreshold site)) own) (omega arith) (site-file .0 file site whole) in
+        rw (whole, room) (store-runs site check memory pattern read chainThreshold _ holds)
