@@ -1,4 +1,5 @@
-"""Sites that the cases share: the shop of document 01, and the graph G1 of the S2RDF paper."""
+"""Sites and checks that the cases share: the shop of document 01, and the graph G1 and the query Q1 of the S2RDF paper."""
+from reference import layout, pattern_file, read_site
 
 SHOP = bytes.fromhex('03 01 03 02 02 03 02 0A 14 0B 15 0C 15 0A 1E 0B 1E 14 28 15 29')
 
@@ -14,3 +15,16 @@ G1_WORDS = [
     1, 2, 2, 3, 2, 4, 3, 4,  1, 5, 1, 6, 3, 6,
     1, 2, 2, 3,  2, 3, 2, 4, 3, 4,  1, 2, 3, 4,  2, 3,  3, 6,
 ]
+
+SHOP_WORDS = layout(1000, read_site(SHOP))
+# ?0 covers ?1, ?0 in ?2, ?1 state 41
+CHECK = bytes.fromhex('03 01 02 03 01 04 05 03 06 52')
+CHECK_PLAN = bytes.fromhex('02 00 00 04 01 00')
+# the paper's Q1 over G1: ?0 likes ?1, ?0 follows ?2, ?2 follows ?3, ?3 likes ?1
+Q1 = pattern_file([(1, 22, 3), (1, 20, 5), (5, 20, 7), (7, 22, 3)])
+# ?0 in 30, ?0 covers ?1, ?1 state 41: Algorithm 4 taken literally goes from the first to the last, a cross join
+STAR_OF_TERMS = bytes.fromhex('03 01 04 3C 01 02 03 03 06 52')
+# case (i): ?0 in ?1, ?1 covers ?2; None by the counts, and planned all the same
+NONE_BY_COUNTS = bytes.fromhex('02 01 04 03 03 02 05')
+# two predicates with a row each, so that a case is small
+SMALL_WORDS = layout(1000, [(1, [(1, 2)]), (2, [(2, 3)])])

@@ -10,57 +10,73 @@ import sys
 
 import build_cases
 import plan_cases
-from reference import Refused, build, choices, layout, plan, read_pattern, read_plan, read_store, variables
-from sites import G1, G1_WORDS, SHOP
+import run_cases
+from reference import Refused, build, chain, choices, layout, plan, read_pattern, read_store, run, variables
+from sites import CHECK, CHECK_PLAN, G1, G1_WORDS, Q1, SHOP, SHOP_WORDS, STAR_OF_TERMS
 
 FOLDER = os.path.join(os.path.dirname(os.path.abspath(__file__)), '..', 'crates', 'vectors')
 
 
-def case(kind, number, words, place, first, second=b''):
-    sizes = ((number, 4), (words, 2), (place, 2), (len(first), 2), (len(second), 2))
+def case(kind, first=b'', second=b'', number=0, words=0, place=0, lent=0):
+    sizes = ((number, 4), (words, 2), (place, 2), (lent, 2), (len(first), 2), (len(second), 2))
     return bytes([kind]) + b''.join(value.to_bytes(size, 'little') for value, size in sizes) + first + second
 
 
-def build_line(threshold, data, lent):
+def memory_text(before, after):
+    return (' unaltered' if after == before else ''.join(' %d' % word for word in after)) + '\n'
+
+
+def built(threshold, data, lent):
     memory = [7] * lent
-    answer, words = build(threshold, data, memory)
-    return answer + (' unaltered' if words == memory else ''.join(' %d' % word for word in words)) + '\n'
+    try:
+        used, words = build(threshold, data, memory)
+    except Refused as refusal:
+        return 'refused %d unaltered\n' % refusal.args[0]
+    return 'built %d' % used + memory_text(memory, words)
 
 
-def plan_line(name, steps):
-    """The count, and sixteen numbers, zeros past the last step."""
+def planned(words, pattern):
+    """The count of steps, and sixteen numbers, zeros past the last step."""
+    try:
+        name, steps = 'plan', plan(words, pattern)
+    except Refused as refusal:
+        name, steps = 'refused %d' % refusal.args[0], []
     numbers = [x for step in steps for x in step]
     return '%s %d:%s\n' % (name, len(steps), ''.join(' %d' % x for x in numbers + [0] * (16 - len(numbers))))
 
 
-def planned(words, pattern):
+def ran(call, lent, *inputs):
+    memory = [7] * lent
     try:
-        return plan_line('plan 0', plan(words, pattern))
+        count, width, words = call(*inputs, memory)
     except Refused as refusal:
-        return plan_line('refused %d' % refusal.args[0], [])
-
-
-def questioned(words, pattern, steps):
-    try:
-        read_plan(words, pattern, steps)
-    except Refused as refusal:
-        return 'refused %d\n' % refusal.args[0]
-    # an accepted plan's numbers are below 128, so they are its bytes
-    return plan_line('accepted', [tuple(steps[at:at + 2]) for at in range(0, len(steps), 2)])
+        return 'refused %d unaltered\n' % refusal.args[0]
+    return ('rows %d %d' % (count, width) if count else 'none') + memory_text(memory, words)
 
 
 def files():
     stdin, stdout = [], []
+
+    def add(expected, *given, **numbers):
+        stdin.append(case(*given, **numbers))
+        stdout.append(expected)
+
     for threshold, data, lent in build_cases.cases():
-        stdin.append(case(0, threshold, lent, 0, data))
-        stdout.append(build_line(threshold, data, lent))
-    for kind, *rest in plan_cases.cases():
+        add(built(threshold, data, lent), 0, data, number=threshold, words=lent)
+    for kind, *rest in [*plan_cases.cases(), *run_cases.cases()]:
         if kind == 'hold':
-            stdin.append(case(1, 0, 0, 0, b''.join(word.to_bytes(4, 'little') for word in rest[0])))
-            continue
-        count, place, value, words, pattern, steps = rest
-        stdin.append(case(2 if kind == 'plan' else 3, value, count, place, pattern, steps or b''))
-        stdout.append(planned(words, pattern) if kind == 'plan' else questioned(words, pattern, steps))
+            add('', 1, b''.join(word.to_bytes(4, 'little') for word in rest[0]))
+        elif kind == 'chain':
+            site, check, lent = rest
+            add(ran(chain, lent, site, check), 4, site, check, lent=lent)
+        else:
+            count, place, value, words, pattern, *given = rest
+            over = {'number': value, 'words': count, 'place': place}
+            if kind == 'plan':
+                add(planned(words, pattern), 2, pattern, **over)
+            else:
+                steps, lent = given
+                add(ran(run, lent, words, pattern, steps), 3, pattern, steps, lent=lent, **over)
     return {'stdin': b''.join(stdin), 'stdout': ''.join(stdout).encode()}
 
 
@@ -84,15 +100,17 @@ def literal_order(words, data):
 
 def assert_papers():
     """What the papers print, worked out again."""
-    shop = plan_cases.SHOP_WORDS
     assert layout(1000, G1) == G1_WORDS
-    assert build(1000, SHOP, [7] * 84)[0] == 'built 84' and build(666, SHOP, [7] * 84)[0] == 'built 80'
-    assert plan(shop, plan_cases.CHECK) == [(2, 0), (0, 4), (1, 0)]
+    assert build(1000, SHOP, [7] * 84)[0] == 84 and build(666, SHOP, [7] * 84)[0] == 80
+    assert plan(SHOP_WORDS, CHECK) == [(2, 0), (0, 4), (1, 0)]
+    assert run(SHOP_WORDS, CHECK, CHECK_PLAN, [7] * 4) == (1, 3, [11, 21, 30, 7])
     # the paper's choice for tp3 of Q1 is OS of follows against likes, at place 3; it joins tp3 and tp4 first
-    assert plan(G1_WORDS, plan_cases.Q1)[:2] == [(2, 1 + 3 * 3 + 1), (3, 1 + 3 * 2 + 2)]
+    assert plan(G1_WORDS, Q1)[:2] == [(2, 1 + 3 * 3 + 1), (3, 1 + 3 * 2 + 2)]
+    # the paper's one row of Q1: ?x A, ?w I2, ?y B, ?z C; in Q1's reading order x, w, y, z are variables 0 to 3
+    assert run(G1_WORDS, Q1, bytes([2, 10 + 1, 3, 9, 0, 0, 1, 0]), [7] * 4) == (1, 4, [1, 6, 2, 3])
     # Algorithm 4 taken literally makes a cross join of the first two that it picks; ours picks one that shares a variable
-    pattern, literal = literal_order(shop, plan_cases.STAR_OF_TERMS)
-    ours = [place for place, _ in plan(shop, plan_cases.STAR_OF_TERMS)]
+    pattern, literal = literal_order(SHOP_WORDS, STAR_OF_TERMS)
+    ours = [place for place, _ in plan(SHOP_WORDS, STAR_OF_TERMS)]
     assert not variables(pattern[literal[0]]) & variables(pattern[literal[1]])
     assert variables(pattern[ours[0]]) & variables(pattern[ours[1]])
 

@@ -27,18 +27,28 @@ pub fn print_words(store: &[u32]) {
     io::write_all(1, b"\n");
 }
 
-pub fn print_number(name: &[u8], number: u32) {
+fn print_number(name: &[u8], number: u32) {
     io::write_all(1, name);
     io::print_decimal(1, number as u64);
+}
+
+fn print_rows(count: u64, width: u32) {
+    io::write_all(1, b"rows ");
+    io::print_decimal(1, count);
+    print_number(b" ", width);
 }
 
 pub fn print_answer(answer: Answer) {
     match answer {
         Answer::Built(used) => print_number(b"built ", used),
         Answer::Refused(number) => print_number(b"refused ", number),
-        Answer::Rows(_, _) => print_number(b"rows ", 0),
-        Answer::None => print_number(b"none ", 0),
-        Answer::Plan => print_number(b"plan ", 0),
+        Answer::Rows(count, width) => print_rows(count, width),
+        Answer::None => {
+            io::write_all(1, b"none");
+        }
+        Answer::Plan => {
+            io::write_all(1, b"plan");
+        }
     }
 }
 

@@ -27,6 +27,9 @@ try-build-requires c κs = search needs
 words-into-requires : tie.Need-words-into-requires
 words-into-requires c κs = search needs
 
+try-chain-requires : tie.Need-try-chain-requires
+try-chain-requires c κs = search needs
+
 try-changed-requires : tie.Need-try-changed-requires
 try-changed-requires c κs = search needs
 
@@ -39,11 +42,14 @@ same-length c = search needs
 returns-3 : tie.Need-returns-3
 returns-3 c = search needs
 
+returns-4 : tie.Need-returns-4
+returns-4 c = search needs
+
 same-length-2 : tie.Need-same-length-2
 same-length-2 c = search needs
 
-returns-4 : tie.Need-returns-4
-returns-4 c = search needs
+returns-5 : tie.Need-returns-5
+returns-5 c = search needs
 
 pub try-case-spec : {M : Type 1} → statement M
 try-case-spec =
@@ -56,9 +62,11 @@ try-case-spec =
     part-second-end
     try-build-requires
     words-into-requires
+    try-chain-requires
     try-changed-requires
     returns-2
     same-length
     returns-3
+    returns-4
     same-length-2
-    returns-4)
+    returns-5)

@@ -4,8 +4,8 @@ use mathlib.Core.Path.{sym}
 use lib.ListN.{length-set}
 use lib.Seq.{length-take-le}
 use borrow.Author.Needs.{needs}
-use Rattle.vectors.proofs.planning_cases.try_changed.Statement.{statement}
-use Rattle.vectors.proofs.planning_cases.try_changed.Tie as tie
+use Rattle.vectors.proofs.store_cases.try_changed.Statement.{statement}
+use Rattle.vectors.proofs.store_cases.try_changed.Tie as tie
 
 mul-kept : tie.Need-mul-kept
 mul-kept c = search needs
