@@ -3,21 +3,19 @@ use Prim.Native.Nat.{ℕ, suc, _+_, _*_, _^_, _≤_, _<_}
 use native.Mathlib.Nat.{zero-add}
 use native.Mathlib.Omega.{arith}
 use mathlib.Core.Path.{_≡_, refl, sym, ap, _∙_, subst}
-use mathlib.Core.Bool.{Bool, true, false, cond}
 use mathlib.Core.List.{List, [], _∷_, _++_}
 use lib.ListN.{length, getD, take, length-append}
 use lib.Seq.{sets, length-sets, sets-eq}
-use Rattle.model.specs.Site.{Table, Site, rowTotal, mostRows}
+use Rattle.model.specs.Site.{Table, Site, rowTotal}
 use Rattle.model.specs.Tables.{kindCount}
-use Rattle.model.specs.Store.{Reduced, semiJoins, isKept, kept, rowsStart, vpEntries, semiJoinEntries, storedStart, vpWords, keptWords, layout}
+use Rattle.model.specs.Store.{semiJoins, rowsStart, vpEntries, semiJoinEntries, storedStart, vpWords, keptWords, layout}
 use Rattle.model.specs.Calls.{over}
 use Rattle.model.proofs.Blocks.{Block, block-at, take-block, getD-block, joined-block}
-use Rattle.model.proofs.StoreLayout.{length-table, length-vp-entries, length-semi-join-entries, front, length-before-kept, length-layout, layout-parts}
-use Rattle.tables.specs.SiteWords.{siteIn, ImageHolds, ImageOf, noReduced, CountsIn}
+use Rattle.model.proofs.StoreLayout.{length-vp-entries, length-semi-join-entries, front, length-before-kept, length-layout, layout-parts}
+use Rattle.model.proofs.StoreSize.{store-fits}
+use Rattle.tables.specs.SiteWords.{siteIn, ImageHolds, ImageOf, CountsIn}
 use Rattle.tables.proofs.Setting.{sets-append, drop-sets, sets-block, part-block}
-use Rattle.tables.proofs.Images.{few-predicates, few-semi-joins, stored-start-limit, entries-inside}
-use Rattle.tables.proofs.Entries.{counted-of}
-use Rattle.tables.proofs.Reduced.{length-all-of}
+use Rattle.tables.proofs.Images.{entries-inside}
 use Rattle.building.proofs.Filling.{image-fronted, counts-fronted}
 
 -- ---- where it ends
@@ -49,27 +47,8 @@ last-entry {count} {image} o some =
 
 -- ---- how many words a store has
 
-kept-fewer : (t : ℕ) (r : Reduced) → length (kept t r) ≤ length (r .rows)
-unfolding kept
-kept-fewer t r = go (isKept t r)
-  where
-    go : (b : Bool) → length (cond b (r .rows) []) ≤ length (r .rows)
-    go true = omega arith
-    go false = omega arith
-
-kept-limit : (t : ℕ) (xs : List Reduced) → ((x : ℕ) → x < length xs → length (getD xs x noReduced .rows) ≤ mostRows)
-    → length (keptWords t xs) ≤ 2 * mostRows * length xs
-kept-limit t [] h = omega arith
-kept-limit t (r ∷ rs) h =
-    let most = kept-limit t rs (λ x l. h (suc x) (omega arith)) in
-    rw (length-append, length-table) (omega (arith, kept-fewer t r, h 0 (omega arith)))
-
 pub used-limit : {count : ℕ} {image : List ℕ} → ImageOf count image → (t : ℕ) → length (layout t (siteIn count image)) < 2 ^ 32
-used-limit {count} {image} o t =
-    let site = siteIn count image in
-    let few = few-semi-joins (few-predicates o) in
-    let most = kept-limit t (semiJoins site) (λ x h. counted-of o x (rw (length-all-of o) at h) refl refl .few) in
-    rw length-layout (omega (arith, stored-start-limit _ (o .proper), length-all-of o))
+used-limit o t = omega (arith, store-fits t _ (o .proper))
 
 -- ---- the image with all words of the front
 

@@ -18,6 +18,8 @@ use Rattle.model.specs.Planner.{tableRows, chooseTable, isJoined, termCo
 use Rattle.model.specs.Solutions.{terms, rowsOver, isSolution, solutions}
 use Rattle.model.specs.Join.{extend, joinTable, joined, joinRows}
 use Rattle.model.specs.Calls.{Outcome, outcome, either, build, plan, noneByCounts, rowsOutcome, run, numberOf, valuesOf, planBytesOf}
+use Rattle.model.specs.Chain.{isRefused, planAndRun, chain}
+use Rattle.model.specs.Text.{decimalWithin, decimal, spaced, rowLine, firstLine, rowLines, printed}
 use Rattle.model.specs.declared.answer.Answer.{Answer}
 use Rattle.model.specs.declared.answer.Answer.the-variants.{Rows, None, Built, Refused}
 use Rattle.model.specs.declared.answer.Answer.the-variants.{Plan as PlanAnswer}
@@ -100,6 +102,10 @@ seenPlan p = outcome (p .answer) (seen (p .answer) (p .plan) .memory ++ planByte
 
 abbrev pub noPlan : PlanNumbers
 noPlan = record { steps = []; count = 0 }
+
+-- an answer, and what is printed of it
+abbrev pub shown : Outcome → Outcome
+shown o = outcome (o .answer) (printed (o .answer) (o .memory))
 
 -- what the definitions give, and what document 01 says
 abbrev pub Case : Type 0
@@ -191,8 +197,19 @@ cases =
     )
     ∷ (run (stored 1000) (0x00 ∷ []) [] (lent 1), outcome (Refused 12) (7 ∷ []))
     ∷ (build 1000 (0x80 ∷ 0x00 ∷ []) (lent 3), outcome (Refused 2) (7 ∷ 7 ∷ 7 ∷ []))
+    -- what the check program prints: rows 1 width 3, and 11 21 30; none; refused 14
+    ∷ (
+      shown (chain shop check (lent 4)),
+      outcome (Rows 1 3)
+          (114 ∷ 111 ∷ 119 ∷ 115 ∷ 32 ∷ 49 ∷ 32 ∷ 119 ∷ 105 ∷ 100 ∷ 116 ∷ 104 ∷ 32 ∷ 51 ∷ 10 ∷ 49 ∷ 49 ∷ 32 ∷ 50 ∷ 49 ∷ 32 ∷ 51 ∷ 48 ∷ 10 ∷ []),
+    )
+    ∷ (shown (chain shop (0x01 ∷ 0x14 ∷ 0x02 ∷ 0x2A ∷ []) (lent 4)), outcome None (110 ∷ 111 ∷ 110 ∷ 101 ∷ 10 ∷ []))
+    ∷ (
+      shown (chain (0x00 ∷ []) check (lent 4)),
+      outcome (Refused 14) (114 ∷ 101 ∷ 102 ∷ 117 ∷ 115 ∷ 101 ∷ 100 ∷ 32 ∷ 49 ∷ 52 ∷ 10 ∷ []),
+    )
     ∷ []
 
 pub worked : map (λ c. c .0) cases ≡ map (λ c. c .1) cases
-unfolding after ask repeated wholeFile numberWithin numberIn number isSite facts isFact declaration row tables siteFile readSite vp semiJoin isStored semiJoins kept vpEntries semiJoinEntries layout tablesIn decoded isStoreOf storeOf variables width fullTable askPosition askPredicate triplePattern patternFile readPattern qualifies reducedTable chosenTable mayChoose step readPlan tableRows chooseTable isJoined termCount chosenRows beats competitors pick order planned terms rowsOver isSolution solutions extend joinTable joined joinRows either build plan noneByCounts rowsOutcome run numberOf valuesOf planBytesOf
+unfolding after ask repeated wholeFile numberWithin numberIn number isSite facts isFact declaration row tables siteFile readSite vp semiJoin isStored semiJoins kept vpEntries semiJoinEntries layout tablesIn decoded isStoreOf storeOf variables width fullTable askPosition askPredicate triplePattern patternFile readPattern qualifies reducedTable chosenTable mayChoose step readPlan tableRows chooseTable isJoined termCount chosenRows beats competitors pick order planned terms rowsOver isSolution solutions extend joinTable joined joinRows either build plan noneByCounts rowsOutcome run numberOf valuesOf planBytesOf isRefused planAndRun chain decimalWithin decimal spaced rowLine firstLine rowLines printed
 worked = refl

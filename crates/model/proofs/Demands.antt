@@ -8,14 +8,14 @@ use mathlib.Core.Option.{Option, some, Option·getD}
 use mathlib.Core.List.{List, [], _∷_, _++_, map, List·Memᴰ·tail, List·Memᴰ·not-nil}
 use lib.ListN.{length, getD, take, drop, replicate}
 use lib.Dec.{ltb, leb}
-use borrow.Author.Tests.{ltb-true, lt-ltb, leb-true}
+use borrow.Author.Tests.{ltb-true, lt-ltb, leb-true, le-leb}
 use Rattle.model.specs.Lists.{_∈_, ascends, each, keep, below, wordsBefore}
 use Rattle.model.specs.Reader.{gives}
 use Rattle.model.specs.Numbers.{areBytes}
 use Rattle.model.specs.Site.{Row, rowBefore, Site, isSite, IsFact, noTable, tableAt}
 use Rattle.model.specs.SiteFile.{readSite, siteBytes}
 use Rattle.model.specs.Tables.{vp, at, Kind, semiJoin, kindAt, kindCount, mostThreshold, isStored}
-use Rattle.model.specs.Store.{tableWords, vpEntryAt, semiJoinEntryAt, layout, wordsUsed, Holds, IsStore, Store, storeAt, storeOf}
+use Rattle.model.specs.Store.{tableWords, vpEntryAt, semiJoinEntryAt, layout, mostStoreWords, wordsUsed, Holds, IsStore, Store, storeAt, storeOf}
 use Rattle.model.specs.Pattern.{Pattern, mostVariables, width, isAccepted, fullTable}
 use Rattle.model.specs.PatternFile.{readPattern, patternBytes}
 use Rattle.model.specs.Plan.{Plan, placesOf, qualifies, reducedTable, mayChoose, isProper}
@@ -23,7 +23,7 @@ use Rattle.model.specs.PlanFile.{readPlan, planBytes}
 use Rattle.model.specs.Planner.{tableRows, chooseTable, isJoined, planned}
 use Rattle.model.specs.Solutions.{IsSolution, solutions}
 use Rattle.model.specs.Join.{joinRows}
-use Rattle.model.specs.Calls.{Outcome, outcome, over, unaltered, build, withPlan, plan, noneByCounts, rowsOutcome, run}
+use Rattle.model.specs.Calls.{Outcome, outcome, over, either, unaltered, build, withPlan, plan, noneByCounts, rowsOutcome, run}
 use Rattle.model.specs.Chain.{chainThreshold, chainStoreWords, isRefused, unlessRefused, stepBytes, planAndRun, chain, NoMatch}
 use Rattle.model.specs.declared.answer.Answer.the-variants.{Rows, None, Built, Refused}
 use Rattle.model.specs.declared.answer.Answer.the-variants.{Plan as PlanAnswer}
@@ -39,10 +39,12 @@ use Rattle.model.proofs.Solutions.{solutions-ascend, solutions-sound, s
 use Rattle.model.proofs.Equation.{join-solutions}
 use Rattle.model.proofs.StoreLayout.{layout-used, vp-entry, semi-join-entry}
 use Rattle.model.proofs.Stores.{store-sound, store-complete, built-holds}
+use Rattle.model.proofs.StoreSize.{store-fits}
 use Rattle.model.proofs.Readers.{FileIsExact}
 use Rattle.model.proofs.SiteFile.{site-file}
 use Rattle.model.proofs.PatternFile.{pattern-accepted, pattern-file}
 use Rattle.model.proofs.PlanFile.{plan-file}
+use Rattle.model.proofs.FileSizes.{site-size, pattern-size}
 use Rattle.model.proofs.Choosing.{choice-order, chosen-table}
 use Rattle.model.proofs.Ordering.{Competes, Precedes, picks}
 use Rattle.model.proofs.ProperPlan.{planned-proper}
@@ -354,6 +356,28 @@ Built-Is-Store = (t : ℕ) (site : Site) (rest : List ℕ) → t ≤ mostThresho
 pub store-built : Built-Is-Store
 store-built = built-holds
 
+-- a store of this many words always suffices: question 9 is never answered no
+abbrev pub Store-Words-Suffice : Type 0
+Store-Words-Suffice =
+    (mostStoreWords ≡ 101939)
+    × ((t : ℕ) (bytes memory : List ℕ) → mostStoreWords ≤ length memory → build t bytes memory .answer ≡ Refused 9 → ⊥)
+
+pub store-words-suffice : Store-Words-Suffice
+unfolding build either
+store-words-suffice = (
+  refl,
+  λ t bytes memory room. by-question NotNine (unaltered memory) 1 (leb t mostThreshold) _ (other 1 (omega arith))
+      λ _. by-reply NotNine (unaltered memory) (readSite bytes) _ (λ n e. let small = site-refuses bytes .number-between n e in other n (omega arith))
+      λ site e. let fits = store-fits t site (site-file .0 bytes site e) in
+      rw (le-leb (length (layout t site)) (length memory) (omega arith)) λ h. let z : _≡_ {A = ℕ} 0 1 = cc in omega arith,
+)
+  where
+    NotNine : Outcome → Type 0
+    NotNine o = o .answer ≡ Refused 9 → ⊥
+
+    other : (n : ℕ) → n < 9 → Refused n ≡ Refused 9 → ⊥
+    other n small h = let e : n ≡ 9 = cc in omega arith
+
 -- ==== The files: what is read is proper; what is written is bytes, and reading it gives it back; an accepted file is what is written
 -- for what was read, so no byte goes unread and no file is refused that should not be
 
@@ -366,6 +390,20 @@ Files-Are-Exact =
 
 pub files-are-exact : Files-Are-Exact
 files-are-exact = (site-file, pattern-file, λ store pattern accepted. plan-file store pattern (pattern-limit (store .site) pattern accepted))
+
+-- an accepted site has fewer than 8,192 bytes and an accepted check fewer than 128, the sizes of the check program's buffers: so a file
+-- that is cut there is refused, and one that is accepted was read to its end
+abbrev pub Files-Are-Short : Type 0
+Files-Are-Short =
+    ((bytes : List ℕ) (site : Site) → areBytes bytes ≡ true → readSite bytes ≡ gives site → length bytes < 8192)
+    × ((site : Site) (bytes : List ℕ) (pattern : Pattern) → areBytes bytes ≡ true → readPattern site bytes ≡ gives pattern → length bytes < 128)
+
+pub files-are-short : Files-Are-Short
+files-are-short = (
+  (λ bytes site e h. rw (site-file .2 bytes site e h) (omega (arith, site-size site (site-file .0 bytes site h)))),
+  λ site bytes pattern e h.
+      rw (pattern-file site .2 bytes pattern e h) (omega (arith, pattern-size pattern (pattern-limit site pattern (pattern-accepted site bytes pattern h)))),
+)
 
 -- ==== The planner
 

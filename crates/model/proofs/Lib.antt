@@ -30,4 +30,6 @@ pub mod Width
 pub mod Calls
 pub mod Cases
 pub mod ChainRows
+pub mod StoreSize
+pub mod FileSizes
 pub mod Demands

@@ -1,5 +1,5 @@
 -- What stands in a list that is kept, gathered or tested.
-use Prim.Native.Nat.{ℕ, zero, suc, _<_}
+use Prim.Native.Nat.{ℕ, zero, suc, _≤_, _<_}
 use native.Mathlib.Omega.{arith}
 use native.Mathlib.Nat.{not-suc-le-zero, le-of-suc-le-suc}
 use mathlib.Core.Path.{_≡_, refl, sym, ap, _∙_, subst}
@@ -54,6 +54,14 @@ module _ {A : Type 0} (p : A → Bool) where
   pub keep-all : (l : List A) → ((a : A) → a ∈ l → p a ≡ true) → keep p l ≡ l
   keep-all [] h = refl
   keep-all (x ∷ xs) h = rw (h x (List·Memᴰ·head refl)) (ap (λ l. x ∷ l) (keep-all xs (λ a m. h a (List·Memᴰ·tail m))))
+
+  pub keep-fewer : (l : List A) → length (keep p l) ≤ length l
+  keep-fewer [] = omega arith
+  keep-fewer (x ∷ xs) = go (p x) (keep-fewer xs)
+    where
+      go : (b : Bool) → length (keep p xs) ≤ length xs → length (cond b (x ∷ keep p xs) (keep p xs)) ≤ suc (length xs)
+      go true h = omega arith
+      go false h = omega arith
 
   pub into-any : {a : A} {l : List A} → a ∈ l → p a ≡ true → any p l ≡ true
   into-any (List·Memᴰ·head {x} {xs} q) e = or-left (any p xs) (sym (ap p q) ∙ e)

@@ -82,14 +82,14 @@ semi-join-entries t here (x ∷ xs) = rw (semi-join-entries t (here + 2 * length
 
 -- ---- the semi-joins
 
-abbrev reduced : Table → Table → Kind → Reduced
+abbrev pub reduced : Table → Table → Kind → Reduced
 reduced p q k = record { full = p .rows; rows = semiJoin k (p .rows) (q .rows) }
 
 -- of p against q, and against every predicate
 abbrev against : Table → Table → List Reduced
 against p q = map (reduced p q) kinds
 
-abbrev againstAll : Site → Table → List Reduced
+abbrev pub againstAll : Site → Table → List Reduced
 againstAll site p = each (against p) site
 
 length-against-all : (site : Site) (p : Table) → length (againstAll site p) ≡ length site * kindCount

@@ -15,3 +15,4 @@ pub mod Solutions
 pub mod Join
 pub mod Calls
 pub mod Chain
+pub mod Text

@@ -73,6 +73,10 @@ layout t site =
     ∷ (vpEntries (rowsStart (length site)) site
     ++ (semiJoinEntries t (storedStart site) (semiJoins site) ++ (vpWords site ++ keptWords t (semiJoins site))))
 
+-- no site needs more words, at whatever threshold
+abbrev pub mostStoreWords : ℕ
+mostStoreWords = rowsStart mostPredicates + (2 * mostRows + 2 * (mostRows * (mostPredicates * kindCount)))
+
 -- the third word
 abbrev pub wordsUsed : List ℕ → ℕ
 wordsUsed words = getD words 2 0

@@ -18,12 +18,12 @@ use Rattle.model.specs.Planner.{best, tableRows, chooseTable, chosenRows}
 use Rattle.model.specs.declared.pattern.Position.{Position}
 use Rattle.model.specs.declared.pattern.TriplePattern.{TriplePattern}
 use Rattle.model.proofs.Booleans.{and-cases, to-false}
-use Rattle.model.proofs.Membership.{at-place, keep-append}
+use Rattle.model.proofs.Membership.{at-place, keep-append, keep-fewer}
 use Rattle.model.proofs.Best.{best-last, best-again}
 use Rattle.model.proofs.Below.{below-last}
 use Rattle.model.proofs.Partition.{proper, vp-table}
 use Rattle.model.proofs.Places.{qualifying}
-use Rattle.tables.proofs.Entries.{keep-fewer, table-fewer}
+use Rattle.tables.proofs.Entries.{table-fewer}
 use Rattle.planning.specs.Members.{memberAt, patternIn, TableOf, PatternCells, PatternHolds}
 use Rattle.planning.specs.Choices.{qualifiesBy, chooseableTable}
 use Rattle.planning.specs.declared.pattern.Member.{Member}

@@ -3,16 +3,15 @@ use Prim.Native.Nat.{ℕ, zero, suc, _+_, _*_, _/_, _%_, _≤_, _<_}
 use native.Mathlib.Nat.{mod-lt, div-add-mod', div-lt-iff-lt-mul}
 use native.Mathlib.Omega.{arith}
 use mathlib.Core.Path.{_≡_, refl, sym, ap, _∙_}
-use mathlib.Core.Bool.{Bool, true, false, cond}
 use mathlib.Core.List.{List, [], _∷_}
 use lib.ListN.{length, getD}
-use Rattle.model.specs.Lists.{keep}
 use Rattle.model.specs.Site.{Site, rowTotal, mostRows, tableAt}
 use Rattle.model.specs.Tables.{kindCount, kindAt, semiJoin, isStored}
 use Rattle.model.specs.Store.{Reduced, isKept}
 use Rattle.model.proofs.Partition.{proper}
 use Rattle.model.proofs.Blocks.{head-block}
 use Rattle.model.proofs.StoreLayout.{leftAt, semi-join-block}
+use Rattle.model.proofs.Membership.{keep-fewer}
 use Rattle.tables.specs.Columns.{columnOf}
 use Rattle.tables.specs.SiteWords.{siteIn, ImageOf, noReduced, reducedAt, OperandsOf}
 use Rattle.tables.proofs.Images.{table-in}
@@ -45,14 +44,6 @@ reduced-at site x h =
     rw back at (head-block (semi-join-block site (ownOf p x) (partnerOf p x) (x % kindCount) (own-below h) (partner-below h) (omega arith)) noReduced)
 
 -- ---- how many rows
-
-pub keep-fewer : {A : Type 0} (p : A → Bool) (l : List A) → length (keep p l) ≤ length l
-keep-fewer p [] = omega arith
-keep-fewer {A} p (x ∷ xs) = go (p x) (keep-fewer p xs)
-  where
-    go : (b : Bool) → length (keep p xs) ≤ length xs → length (cond b (x ∷ keep p xs) (keep p xs)) ≤ suc (length xs)
-    go true h = omega arith
-    go false h = omega arith
 
 pub table-fewer : (site : Site) (i : ℕ) → length (tableAt site i .rows) ≤ rowTotal site
 table-fewer [] i = omega arith
