@@ -1,3 +1,4 @@
 -- Laws that the proofs of this crate cite.
 pub mod PlanSize
 pub mod ChainAnswers
+pub mod FittingRows

@@ -2,6 +2,7 @@ ghost use mathlib.Core.Path.{_≡_};
 ghost use Rattle.model.specs.Calls.{outcome};
 ghost use Rattle.model.specs.Chain.{isRefused, planAndRun, chain, NoMatch};
 ghost use Rattle.model.specs.declared.answer.Answer.the-variants.{None};
+ghost use Rattle.chain.specs.RowsFit.{RowsFit};
 use closing::calls::build;
 use closing::calls::plan;
 use closing::calls::run;
@@ -40,6 +41,7 @@ fn plan_and_run(store: &[u32], check: &[u8], rows: &mut [u32]) -> Answer
 // The first refusal, or what the run answers. The store is the chain's own, so that a late refusal alters nothing lent.
 pub fn check_site(site: &[u8], check: &[u8], rows: &mut [u32]) -> Answer
     ensures { λ r. ⌜ outcome r (now (rows .exit)) ≡ chain (now (site .entry)) (now (check .entry)) (now (rows .entry)) ⌝ }
+    ensures { λ r. ⌜ RowsFit r (now (rows .entry)) ⌝ }
     ensures { λ r. ⌜ (r ≡ None → NoMatch (now (site .entry)) (now (check .entry))) ⌝ }
 {
     let mut store = [0u32; STORE_WORDS];

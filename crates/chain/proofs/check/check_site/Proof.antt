@@ -4,6 +4,7 @@ use native.Mathlib.Omega.{arith}
 use mathlib.Core.Path.{sym, _∙_}
 use lib.ListN.{getD}
 use borrow.Author.Needs.{needs}
+use Rattle.chain.proofs.FittingRows.{answer-fits}
 use Rattle.chain.proofs.ChainAnswers.{build-refused, build-planned, none-whole}
 use Rattle.chain.proofs.check.check_site.Statement.{statement}
 use Rattle.chain.proofs.check.check_site.Tie as tie
@@ -24,7 +25,7 @@ below c i = let fits = c .shared-slice-known .given i in omega arith
 returns : tie.Need-returns
 returns c =
     let e = build-refused _ _ _ (c .before .before .before .build .ensures) (sym (c .before .is-refused .ensures) ∙ c .if1 .taken) in
-    (e, none-whole _ _ _ (below (c .before .before .before .before .before .before .before)) e)
+    (e, (answer-fits _ _ _ e, none-whole _ _ _ (below (c .before .before .before .before .before .before .before)) e))
 
 slice-aggregate-plan-and-run : tie.Need-slice-aggregate-plan-and-run
 slice-aggregate-plan-and-run c = search needs
@@ -41,7 +42,7 @@ returns-2 c =
     let e =
     c .before .before .plan-and-run .ensures
     ∙ build-planned _ _ _ (o .before .before .before .build .ensures) (sym (o .before .is-refused .ensures) ∙ o .if1 .left) in
-    (e, none-whole _ _ _ (below (c .before .before .before .before .before .before .before .before .before .before .before .before)) e)
+    (e, (answer-fits _ _ _ e, none-whole _ _ _ (below (c .before .before .before .before .before .before .before .before .before .before .before .before)) e))
 
 pub check-site-spec : {M : Type 1} → statement M
 check-site-spec =

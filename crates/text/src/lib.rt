@@ -1,0 +1,3 @@
+// The text of an answer, line by line.
+pub mod digits;
+pub mod lines;
