@@ -1,0 +1,110 @@
+/* closing.h - the closing-check engine: builds a site's tables, plans a check over them, runs it.
+ *
+ * Link with libclosing.a, which `rt staticlib closing` writes; x86-64 Linux. What each call does is proved, for every input, against
+ * the definitions in crates/model/specs/Calls.antt; this text says it in words. "01" is the project's scope document.
+ *
+ * THE THREE CALLS. closing_build turns the file of a site into a store, closing_plan plans a check over a store, closing_run runs a
+ * plan and gives the rows, or none. Each call asks its own questions of everything that it is given, in the order of the list below,
+ * and asks no earlier check of its caller: a store, a check or a plan may come from anywhere.
+ *
+ * WHAT IS RETURNED. 0, and then `answer` holds the kind of the answer and its values, unused words 0. Or the number of the first
+ * question that was answered no, 1 to 21, and then no lent memory is altered, `answer` included.
+ *
+ * NONE. CLOSING_NONE is said only of a store that is, word for word, that of a site, and only where that whole site holds no match.
+ * A site that was not read whole has no store: closing_build refuses it. Whoever answers a refusal with "nothing open" undoes this.
+ *
+ * MEMORY. Pieces of memory lent to one call must not overlap, but that what is only read may overlap what is only read. Words are
+ * uint32_t, aligned to 4, in the machine's own byte order, and so is a store that is kept in a file; `answer` is aligned to 8. Bytes
+ * need no alignment. No pointer may be null, not even with a length of 0: then any other aligned address will do, and nothing is read
+ * or written through it. Lengths are counts of elements, bytes or words.
+ *
+ * STATE, STACK, TIME. No call keeps state or allocates: calls may run side by side on memory of their own. On x86-64 a call of
+ * closing_build was measured to need 14.3 KiB of stack, closing_plan 1.8 KiB, closing_run 5.5 KiB. closing_build, and question 10,
+ * which the other two both ask, compare each row with each other one a few times: at most some ten million comparisons at 1,024
+ * rows. Beside that the worst time of a run is the product of the rows of its plan's tables, where fewer rows are found than fit; a
+ * run that finds more stops at the first that does not fit.
+ */
+#ifndef CLOSING_H
+#define CLOSING_H
+
+#include <stddef.h>
+#include <stdint.h>
+
+#ifdef __cplusplus
+extern "C" {
+#endif
+
+/* Raised when the inputs of a call or the numbers of an answer change. */
+#define CLOSING_VERSION 1
+
+/* A store of this many words holds every site at every threshold: with it closing_build never returns 9 (a law: Store-Words-Suffice
+ * in crates/model/proofs/Demands.antt). Most sites need far fewer; 01's shop needs 84. */
+#define CLOSING_STORE_WORDS 101939
+
+/* Kinds of answers, in answer[0], and what stands behind them in answer[1] and answer[2]. answer[3] is 0. */
+#define CLOSING_ROWS 1  /* the count of rows, at least 1; the words of each row, V */
+#define CLOSING_NONE 2  /* no solution; 0, 0 */
+#define CLOSING_BUILT 3 /* the count of the store's words used; 0 */
+#define CLOSING_PLAN 4  /* the count of steps; 0 */
+
+/* Refusals: the question that was answered no. Those of one file are asked as its bytes are read, from the front; the form of a
+ * number (1 to 3 bytes, seven bits each, low group first, in shortest form) is questioned before its field.
+ *
+ * closing_build:
+ *    1  Is T at most 1,000?
+ *    2  Is each number of the site whole and in shortest form?
+ *    3  Is the count of predicates at most 16?
+ *    4  Is each predicate a term (at most 65,535) above the one before?
+ *    5  Is the running total of rows at most 1,024?
+ *    6  Is each subject and object a term?
+ *    7  Is each row above the one before in its table?
+ *    8  Does the site's file end there?
+ *    9  Does the lent store hold the words needed?
+ * closing_plan and closing_run:
+ *   10  Are the store's words what some site and some T give? Its first "words used" words are compared in full.
+ *   11  Is each number of the pattern whole and in shortest form?
+ *   12  Is the count of triple patterns 1 to 8?
+ *   13  Is the predicate a term position?
+ *   14  Is the predicate declared in the store?
+ *   15  Is each other fixed position a term?
+ *   16  Is each variable at most 7, and in first-use order?
+ *   17  Does the pattern's file end there?
+ * closing_run:
+ *   18  Is each number of the plan whole and in shortest form, with a step for each triple pattern and no more bytes?
+ *   19  Is the place a triple pattern's, and not yet used?
+ *   20  Is the choice 0, or a table that is stored and qualifies?
+ *   21  Do the rows fit the lent words? Asked only where there are rows; rows of no words always fit. */
+
+/* Builds the store of a site.
+ *   t            the threshold T, 0 to 1,000: a reduced table is stored if it has rows and 1,000 x its rows < T x those of its table
+ *   site         the site's file, `site_bytes` bytes
+ *   store        `store_words` words to fill; those past the words used keep their content
+ *   answer       CLOSING_BUILT and the count of words used
+ * Returns 0, or 1 to 9. */
+uint32_t closing_build(uint32_t t, const uint8_t *site, size_t site_bytes, uint32_t *store, size_t store_words, uint64_t answer[4]);
+
+/* Plans a check over a store: the smallest stored table for each triple pattern, and an order that joins by shared variables.
+ *   store        `store_words` words; those past the words used are not looked at
+ *   pattern      the check's file, `pattern_bytes` bytes
+ *   plan         the place and the choice of each step, 0 past the last: plan[0 .. 2 x steps] is what closing_run takes
+ *   answer       CLOSING_PLAN and the count of steps
+ * Returns 0, or 10 to 17. A plan is given also where the answer will be none. */
+uint32_t closing_plan(const uint32_t *store, size_t store_words, const uint8_t *pattern, size_t pattern_bytes, uint8_t plan[16],
+                      uint64_t answer[4]);
+
+/* Runs a plan of a check over a store.
+ *   store, pattern   as for closing_plan
+ *   plan             the plan's file, `plan_bytes` bytes: closing_plan's, or any other that takes each triple pattern once. The rows
+ *                    are the same for every plan that is accepted
+ *   rows             `row_words` words for rows of V words each, variable 0 first, ascending, each once; words past them, and all of
+ *                    them where the answer is none, keep their content
+ *   answer           CLOSING_ROWS, the count of rows and V; or CLOSING_NONE
+ * Returns 0, or 10 to 21. */
+uint32_t closing_run(const uint32_t *store, size_t store_words, const uint8_t *pattern, size_t pattern_bytes, const uint8_t *plan,
+                     size_t plan_bytes, uint32_t *rows, size_t row_words, uint64_t answer[4]);
+
+#ifdef __cplusplus
+}
+#endif
+
+#endif

@@ -1,0 +1,41 @@
+/* Seeded inputs of the three calls, good and damaged. */
+#ifndef INPUTS_H
+#define INPUTS_H
+
+#include <stddef.h>
+#include <stdint.h>
+
+enum { SITE_BYTES = 16384, PATTERN_BYTES = 192, PLAN_BYTES = 64, STORE_WORDS = 120000, ROW_WORDS = 4096 };
+
+struct file {
+    size_t size;
+    uint8_t byte[SITE_BYTES];
+};
+
+/* One input: a build; and a plan and a run over the store of a good site, which may be damaged. */
+struct input {
+    uint32_t t;
+    struct file site;
+    size_t store_words;
+    uint32_t held_t;
+    struct file held_site;
+    size_t held_more, held_less;
+    int is_damaged;
+    size_t damaged_at;
+    uint32_t damaged_by;
+    struct file pattern, plan;
+    size_t row_words;
+    int at_end;
+};
+
+void make_input(uint64_t seed, struct input *input);
+
+/* The words of the input's held store, damage and all; their count. */
+size_t held_store(const struct input *input, uint32_t words[STORE_WORDS]);
+
+/* Smaller inputs, one after the other: the k-th way to leave something out of an input; 0 where there is no such way. */
+int smaller_input(const struct input *input, size_t k, struct input *smaller);
+
+void print_input(const struct input *input);
+
+#endif

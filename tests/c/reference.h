@@ -1,0 +1,23 @@
+/* What document 01 says of the three calls, in plain C, by brute force: no reduced table is used to find a solution, and nothing is
+ * shared with the engine. The calls take and give what those of closing.h do. */
+#ifndef REFERENCE_H
+#define REFERENCE_H
+
+#include <stddef.h>
+#include <stdint.h>
+
+#define MOST_CHOICES 25
+
+uint32_t reference_build(uint32_t t, const uint8_t *site, size_t site_bytes, uint32_t *store, size_t store_words, uint64_t answer[4]);
+
+uint32_t reference_plan(const uint32_t *store, size_t store_words, const uint8_t *pattern, size_t pattern_bytes, uint8_t plan[16],
+                        uint64_t answer[4]);
+
+uint32_t reference_run(const uint32_t *store, size_t store_words, const uint8_t *pattern, size_t pattern_bytes, const uint8_t *plan,
+                       size_t plan_bytes, uint32_t *rows, size_t row_words, uint64_t answer[4]);
+
+/* The choices that question 20 leaves open at a place of an accepted pattern; their count, 0 where there is no such place. */
+size_t reference_choices(const uint32_t *store, size_t store_words, const uint8_t *pattern, size_t pattern_bytes, uint32_t place,
+                         uint8_t open[MOST_CHOICES]);
+
+#endif
