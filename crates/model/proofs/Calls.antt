@@ -17,13 +17,13 @@ use Rattle.model.specs.Store.{Holds, Store, storeOf}
 use Rattle.model.specs.Pattern.{Pattern, places, isAccepted, fullTable}
 use Rattle.model.specs.Plan.{qualifies, reducedTable}
 use Rattle.model.specs.Solutions.{solutions}
+use Rattle.model.specs.Answers.{Between}
 use Rattle.model.specs.Calls.{either, question, storeReply, noneByCounts}
 use Rattle.model.proofs.Booleans.{and-cases, or-cases}
 use Rattle.model.proofs.Membership.{no-element, from-any}
 use Rattle.model.proofs.Below.{from-below}
 use Rattle.model.proofs.Places.{empty-reduced, empty-full}
 use Rattle.model.proofs.Stores.{store-sound}
-use Rattle.model.proofs.Refusals.{Between}
 
 -- ---- none by counts
 

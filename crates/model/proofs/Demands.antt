@@ -1,14 +1,14 @@
 -- What is promised of the definitions: the three demands and what they lean on, each a named statement with its proof under it.
 use Prim.Native.Nat.{ℕ, _+_, _*_, _≤_, _<_}
 use native.Mathlib.Omega.{arith}
-use mathlib.Core.Path.{_≡_, refl, sym, ap, _∙_, subst}
-use mathlib.Core.Logic.{_⊎_, inl, inr, ⊎-elim, _↔_}
-use mathlib.Core.Bool.{Bool, true, false, cond}
-use mathlib.Core.Option.{Option, some, Option·getD}
-use mathlib.Core.List.{List, [], _∷_, _++_, map, List·Memᴰ·tail, List·Memᴰ·not-nil}
-use lib.ListN.{length, getD, take, drop, replicate}
+use mathlib.Core.Path.{_≡_, refl}
+use mathlib.Core.Logic.{_⊎_, ⊎-elim, _↔_}
+use mathlib.Core.Bool.{true, false}
+use mathlib.Core.Option.{some}
+use mathlib.Core.List.{List, [], _∷_, _++_, map, List·Memᴰ·tail}
+use lib.ListN.{length, getD, take, drop}
 use lib.Dec.{ltb, leb}
-use borrow.Author.Tests.{ltb-true, lt-ltb, leb-true, le-leb}
+use borrow.Author.Tests.{ltb-true, lt-ltb, le-leb}
 use Rattle.model.specs.Lists.{_∈_, ascends, each, keep, below, wordsBefore}
 use Rattle.model.specs.Reader.{gives}
 use Rattle.model.specs.Numbers.{areBytes}
@@ -23,11 +23,10 @@ use Rattle.model.specs.PlanFile.{readPlan, planBytes}
 use Rattle.model.specs.Planner.{tableRows, chooseTable, isJoined, planned}
 use Rattle.model.specs.Solutions.{IsSolution, solutions}
 use Rattle.model.specs.Join.{joinRows}
-use Rattle.model.specs.Calls.{Outcome, outcome, over, either, unaltered, build, withPlan, plan, noneByCounts, rowsOutcome, run}
-use Rattle.model.specs.Chain.{chainThreshold, chainStoreWords, isRefused, unlessRefused, stepBytes, planAndRun, chain, NoMatch}
+use Rattle.model.specs.Calls.{Outcome, over, either, unaltered, build, plan, noneByCounts, rowsOutcome, run}
+use Rattle.model.specs.Answers.{BuildAnswer, Accepted, PlanCallAnswer, RunAnswer}
+use Rattle.model.specs.Chain.{chainThreshold, chainStoreWords, chain, NoMatch}
 use Rattle.model.specs.declared.answer.Answer.the-variants.{Rows, None, Built, Refused}
-use Rattle.model.specs.declared.answer.Answer.the-variants.{Plan as PlanAnswer}
-use Rattle.model.specs.declared.answer.Planned.{Planned}
 use Rattle.model.proofs.Booleans.{and-cases, and-make, not-both}
 use Rattle.model.proofs.Membership.{at-place}
 use Rattle.model.proofs.Partition.{vp-fact, fact-vp, vp-ascends, vp-table}
@@ -48,89 +47,35 @@ use Rattle.model.proofs.FileSizes.{site-size, pattern-size}
 use Rattle.model.proofs.Choosing.{choice-order, chosen-table}
 use Rattle.model.proofs.Ordering.{Competes, Precedes, picks}
 use Rattle.model.proofs.ProperPlan.{planned-proper}
-use Rattle.model.proofs.Refusals.{Between, site-refuses, pattern-refuses, plan-refuses}
-use Rattle.model.proofs.Calls.{by-reply, by-question, by-store, wider, none-by-counts}
+use Rattle.model.proofs.Refusals.{site-refuses}
+use Rattle.model.proofs.Calls.{by-reply, by-question, none-by-counts}
+use Rattle.model.proofs.Answers.{build-answers, plan-answers, run-answers, run-none, chain-none}
 use Rattle.model.proofs.ChainRows.{chain-solutions}
 use Rattle.model.proofs.Cases.{cases, worked}
 
 -- ==== Demand 1. Each call, on all bytes and words whatsoever, answers with what it was called for (tables, a plan, rows or none) or
 -- with a refusal and its number from the list; a refusal leaves all lent memory unaltered.
 
--- 1 to 9 and the memory as it was, or Built and the words of the site that was read, over the memory
-abbrev pub BuildAnswer : ℕ → List ℕ → List ℕ → Outcome → Type 0
-BuildAnswer t bytes memory o =
-    ((n : ℕ) × Between 1 9 n × (o ≡ outcome (Refused n) memory))
-    ⊎ ((site : Site) × (t ≤ mostThreshold) × (readSite bytes ≡ gives site)
-    × (o ≡ outcome (Built (length (layout t site))) (over (layout t site) memory)))
+-- specs/Answers says what each may answer: 1 to 9 and the memory as it was, or Built and the words of the site that was read
+abbrev pub Build-Answers : Type 0
+Build-Answers = (t : ℕ) (bytes memory : List ℕ) → BuildAnswer t bytes memory (build t bytes memory)
 
-pub demand-1-build : (t : ℕ) (bytes memory : List ℕ) → BuildAnswer t bytes memory (build t bytes memory)
-unfolding build
-demand-1-build t bytes memory =
-    by-question (BuildAnswer t bytes memory) (unaltered memory) 1 (leb t mostThreshold) _ (inl (1, omega arith, refl))
-    λ low. by-reply (BuildAnswer t bytes memory) (unaltered memory) (readSite bytes) _
-    (λ n e. inl (n, wider 1 9 (omega arith) (omega arith) (site-refuses bytes .number-between n e), refl))
-    λ site e. by-question (BuildAnswer t bytes memory) (unaltered memory) 9 (leb (length (layout t site)) (length memory)) _ (inl (9, omega arith, refl))
-    λ _. inr (site, leb-true t mostThreshold low, e, refl)
+pub demand-1-build : Build-Answers
+demand-1-build = build-answers
 
--- the words are the store of some site at some threshold, and the bytes a pattern that is accepted there
-pub record Accepted (words bytes : List ℕ) : Type 0 where
-  pub store : Store
-  pub holds : Holds words (store .threshold) (store .site)
-  pub pattern : Pattern
-  pub read : readPattern (store .site) bytes ≡ gives pattern
+-- 10 to 17 and no plan, or Plan and the planner's steps
+abbrev pub Plan-Answers : Type 0
+Plan-Answers = (words bytes : List ℕ) → PlanCallAnswer words bytes (plan words bytes)
 
--- 10 to 17 with sixteen zeros and a count of 0, or Plan and the planner's steps
-abbrev pub PlanCallAnswer : List ℕ → List ℕ → Planned → Type 0
-PlanCallAnswer words bytes o =
-    ((n : ℕ) × Between 10 17 n × (o ≡ record { answer = Refused n; plan = record { steps = replicate 16 0; count = 0 } }))
-    ⊎ ((c : Accepted words bytes) × (o ≡ withPlan PlanAnswer (planned (c .store) (c .pattern))))
-
-pub demand-1-plan : (words bytes : List ℕ) → PlanCallAnswer words bytes (plan words bytes)
-unfolding plan
-demand-1-plan words bytes =
-    by-store (PlanCallAnswer words bytes) _ words _ (inl (10, omega arith, refl))
-    λ store h. by-reply (PlanCallAnswer words bytes) _ (readPattern (store .site) bytes) _
-    (λ n e. inl (n, wider 10 17 (omega arith) (omega arith) (pattern-refuses (store .site) bytes .number-between n e), refl))
-    λ pattern e. inr (record { store = store; holds = h; pattern = pattern; read = e }, refl)
+pub demand-1-plan : Plan-Answers
+demand-1-plan = plan-answers
 
 -- 10 to 21 and the memory as it was; None, the memory as it was, and no solution; or Rows, at least one, of width V, over the memory
-abbrev pub RunAnswer : List ℕ → List ℕ → List ℕ → Outcome → Type 0
-RunAnswer words bytes memory o =
-    ((n : ℕ) × Between 10 21 n × (o ≡ outcome (Refused n) memory))
-    ⊎ (((c : Accepted words bytes) × (o ≡ outcome None memory) × ((row : List ℕ) → IsSolution (c .store .site) (c .pattern) row → ⊥))
-    ⊎ ((c : Accepted words bytes) × (1 ≤ length (solutions (c .store .site) (c .pattern)))
-    × (o ≡ outcome (Rows (length (solutions (c .store .site) (c .pattern))) (width (c .pattern)))
-    (over (each (λ row. row) (solutions (c .store .site) (c .pattern))) memory))))
+abbrev pub Run-Answers : Type 0
+Run-Answers = (words bytes steps memory : List ℕ) → RunAnswer words bytes memory (run words bytes steps memory)
 
--- the last questions, of an accepted check
-module _ (words bytes memory : List ℕ) (c : Accepted words bytes) where
-  none-left : solutions (c .store .site) (c .pattern) ≡ [] → (row : List ℕ) → IsSolution (c .store .site) (c .pattern) row → ⊥
-  none-left e row s =
-      List·Memᴰ·not-nil
-      (subst (λ rows. row ∈ rows) e
-      (solutions-complete (c .store .site) (c .pattern) (pattern-accepted (c .store .site) bytes (c .pattern) (c .read)) row s))
-
-  by-rows : (rows : List (List ℕ)) → solutions (c .store .site) (c .pattern) ≡ rows → RunAnswer words bytes memory (rowsOutcome (width (c .pattern)) rows memory)
-  unfolding rowsOutcome
-  by-rows [] e = inr (inl (c, refl, none-left e))
-  by-rows (r ∷ rs) e =
-      by-question (RunAnswer words bytes memory) (unaltered memory) 21 (leb (length (r ∷ rs) * width (c .pattern)) (length memory)) _ (inl (21, omega arith, refl))
-      λ _. inr (inr (c, rw e (omega arith), rw e refl))
-
-  by-counts : (b : Bool) → noneByCounts (c .store .site) (c .pattern) ≡ b
-      → RunAnswer words bytes memory (cond b (outcome None memory) (rowsOutcome (width (c .pattern)) (solutions (c .store .site) (c .pattern)) memory))
-  by-counts true e = inr (inl (c, refl, none-left (none-by-counts (c .store .site) (c .pattern) (pattern-accepted (c .store .site) bytes (c .pattern) (c .read)) e)))
-  by-counts false e = by-rows (solutions (c .store .site) (c .pattern)) refl
-
-pub demand-1-run : (words bytes steps memory : List ℕ) → RunAnswer words bytes memory (run words bytes steps memory)
-unfolding run
-demand-1-run words bytes steps memory =
-    by-store (RunAnswer words bytes memory) (unaltered memory) words _ (inl (10, omega arith, refl))
-    λ store h. by-reply (RunAnswer words bytes memory) (unaltered memory) (readPattern (store .site) bytes) _
-    (λ n e. inl (n, wider 10 21 (omega arith) (omega arith) (pattern-refuses (store .site) bytes .number-between n e), refl))
-    λ pattern e. by-reply (RunAnswer words bytes memory) (unaltered memory) (readPlan store pattern steps) _
-    (λ n f. inl (n, wider 10 21 (omega arith) (omega arith) (plan-refuses store pattern steps .number-between n f), refl))
-    λ _ _. by-counts words bytes memory (record { store = store; holds = h; pattern = pattern; read = e }) (noneByCounts (store .site) pattern) refl
+pub demand-1-run : Run-Answers
+demand-1-run = run-answers
 
 -- ==== The rule before the demands. 'none' may be said only of a site that was read whole and only where the whole site holds no match.
 
@@ -139,55 +84,15 @@ None-Is-Whole =
     (words bytes steps memory : List ℕ) → run words bytes steps memory .answer ≡ None
     → (c : Accepted words bytes) × ((row : List ℕ) → IsSolution (c .store .site) (c .pattern) row → ⊥)
 
-refused-not-none : {X : Type 0} {n : ℕ} → Refused n ≡ None → X
-refused-not-none h = let z : _≡_ {A = ℕ} 0 1 = cc in absurd (omega arith)
-
 pub none-is-whole : None-Is-Whole
-none-is-whole words bytes steps memory h = go (demand-1-run words bytes steps memory) h
-  where
-    go : {o : Outcome} → RunAnswer words bytes memory o → o .answer ≡ None
-        → (c : Accepted words bytes) × ((row : List ℕ) → IsSolution (c .store .site) (c .pattern) row → ⊥)
-    go (inl x) k = let e = x .2 in let z : _≡_ {A = ℕ} 0 1 = cc in absurd (omega arith)
-    go (inr (inl x)) k = (x .0, x .2)
-    go (inr (inr x)) k = let e = x .2 in let z : _≡_ {A = ℕ} 0 1 = cc in absurd (omega arith)
+none-is-whole = run-none
 
 -- The chain that says 'none' read a file that is, to its last byte, what is written for a site, and that whole site holds no match.
 abbrev pub Chain-None-Is-Whole : Type 0
 Chain-None-Is-Whole = (file check memory : List ℕ) → areBytes file ≡ true → chain file check memory .answer ≡ None → NoMatch file check
 
 pub chain-none-is-whole : Chain-None-Is-Whole
-unfolding chain isRefused planAndRun
-chain-none-is-whole file check memory bytes h = at-build (demand-1-build chainThreshold file own) h
-  where
-    own : List ℕ
-    own = replicate chainStoreWords 0
-
-    at-plan : (site : Site) → readSite file ≡ gives site → {words : List ℕ} → Holds words chainThreshold site
-        → {o : Planned} → PlanCallAnswer words check o
-        → unlessRefused (o .answer) memory (run words check (stepBytes (o .plan)) memory) .answer ≡ None → NoMatch file check
-    at-plan site read holds (inl x) k = refused-not-none (rw (x .2) at k)
-    at-plan site read {words} holds (inr x) k =
-        let none = none-is-whole words check _ memory (rw (x .1) at k) in
-        let c = none .0 in
-        let same : site ≡ c .store .site =
-        ap (λ (x : Option Store). Option·getD x (storeAt 0 []) .site)
-        (sym (store-complete words chainThreshold site holds) ∙ store-complete words (c .store .threshold) (c .store .site) (c .holds)) in
-        record {
-          site = site;
-          proper = holds .proper;
-          written = site-file .2 file site bytes read;
-          pattern = c .pattern;
-          accepted = rw same (c .read);
-          no-solution = rw same (none .1);
-        }
-
-    at-build : {o : Outcome} → BuildAnswer chainThreshold file own o
-        → unlessRefused (o .answer) memory (planAndRun (o .memory) check memory) .answer ≡ None → NoMatch file check
-    at-build (inl x) k = refused-not-none (rw (x .2) at k)
-    at-build (inr x) k =
-        let site = x .0 in
-        let words = over (layout chainThreshold site) own in
-        at-plan site (x .2) (built-holds chainThreshold site _ (x .1) (site-file .0 file site (x .2))) (demand-1-plan words check) (rw (x .3) at k)
+chain-none-is-whole = chain-none
 
 -- And of a site that was read and fits, and a check that is accepted, the chain answers by the solutions.
 abbrev pub Chain-Answers-Solutions : Type 0

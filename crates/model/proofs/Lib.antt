@@ -30,6 +30,7 @@ pub mod Width
 pub mod Calls
 pub mod Cases
 pub mod ChainRows
+pub mod Answers
 pub mod StoreSize
 pub mod FileSizes
 pub mod Demands

@@ -1,11 +1,12 @@
 -- The numbers that a reader refuses with.
-use Prim.Native.Nat.{ℕ, zero, suc, _≤_}
+use Prim.Native.Nat.{ℕ, zero, suc}
 use native.Mathlib.Omega.{arith}
 use mathlib.Core.Path.{_≡_, refl, subst}
 use mathlib.Core.Bool.{Bool, true, false, cond}
 use mathlib.Core.Option.{Option, none, some}
 use mathlib.Core.List.{List, [], _∷_, _++_}
 use lib.ListN.{length}
+use Rattle.model.specs.Answers.{Between}
 use Rattle.model.specs.Lists.{isEmpty}
 use Rattle.model.specs.Reader.{Reply, refused, gives, Reader, after, ask, allRead, wholeFile, repeated}
 use Rattle.model.specs.Numbers.{Sized, numberIn, number, orRefused}
@@ -18,9 +19,6 @@ use Rattle.model.specs.Plan.{Plan}
 use Rattle.model.specs.PlanFile.{step, readPlan}
 use Rattle.model.specs.declared.pattern.Position.{Position}
 use Rattle.model.specs.declared.pattern.Position.the-variants.{Term, Var}
-
-abbrev pub Between : ℕ → ℕ → ℕ → Type 0
-Between low high n = (low ≤ n) × (n ≤ high)
 
 -- where it refuses, the number is between low and high
 pub record Refuses {A : Type 0} (low high : ℕ) (reply : Reply A) : Type 0 where

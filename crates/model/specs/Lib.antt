@@ -14,5 +14,6 @@ pub mod Planner
 pub mod Solutions
 pub mod Join
 pub mod Calls
+pub mod Answers
 pub mod Chain
 pub mod Text
