@@ -8,9 +8,9 @@ use closing::calls::plan;
 use closing::calls::run;
 use model::answer::Answer;
 
-pub const THRESHOLD: u32 = 1000;
+const THRESHOLD: u32 = 1000;
 
-pub const STORE_WORDS: usize = 8192;
+const STORE_WORDS: usize = 8192;
 
 fn is_refused(answer: Answer) -> bool
     ensures { λ r. ⌜ r ≡ isRefused answer ⌝ }

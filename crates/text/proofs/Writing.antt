@@ -2,8 +2,8 @@
 use Prim.Native.Nat.{ℕ, _+_, _≤_}
 use native.Mathlib.Nat.{zero-add}
 use native.Mathlib.Omega.{arith}
-use mathlib.Core.Path.{_≡_, sym}
-use mathlib.Core.List.{List, _++_}
+use mathlib.Core.Path.{_≡_, refl, sym}
+use mathlib.Core.List.{List, [], _++_}
 use lib.ListN.{length, take, length-append}
 use lib.Seq.{take-append-seam, sets, sets-eq, length-sets}
 use Rattle.tables.proofs.Setting.{sets-append}
@@ -27,3 +27,16 @@ module _ {before text out : List ℕ} {next : ℕ} (x : FrontIs before text out 
     place = rw (x .place) (sym (length-append text more));
     bytes = rw (x .bytes, x .place, sets-append, zero-add);
   }
+
+  -- by what a call that puts it says
+  pub front-put : {after : List ℕ} {end : ℕ} (more : List ℕ) → (end ≡ next + length more) × (after ≡ sets out next more)
+      → FrontIs before (text ++ more) after end
+  front-put more h = rw (h .0, h .1) (front-more more)
+
+  -- what is taken from the front is the text
+  pub front-taken : next ≤ length out → (next ≡ length text) × (take next out ≡ text)
+  front-taken room = (x .place, rw (x .place, x .bytes) (front-written before text (omega (arith, x .place, front-length))))
+
+-- nothing is written yet
+pub front-none : (before : List ℕ) → FrontIs before [] before 0
+front-none before = record { place = refl; bytes = refl }

@@ -4,7 +4,7 @@ use mathlib.Core.Path.{refl}
 use lib.ListN.{length-set}
 use borrow.Author.Needs.{needs}
 use Rattle.model.specs.Text.{firstLine}
-use Rattle.text.proofs.FirstLines.{decimal-fits, decimal-ends, put-front, rows-put, refused-put}
+use Rattle.text.proofs.FirstLines.{decimal-fits, decimal-ends, rows-put, none-put, refused-put}
 use Rattle.text.proofs.lines.put_first_line.Statement.{statement}
 use Rattle.text.proofs.lines.put_first_line.Tie as tie
 
@@ -98,7 +98,7 @@ returns-2 : tie.Need-returns-2
 unfolding firstLine
 returns-2 c =
     let start = c .before .before .before .before .before in
-    rw (start .enum-told .given .1) (put-front (start .before .before .before .args .out .now) _ (c .before .before .put-bytes3 .ensures) (omega arith))
+    rw (start .enum-told .given .1) (none-put (start .before .before .before .args .out .now) (c .before .before .put-bytes3 .ensures) (omega arith))
 
 returns-3 : tie.Need-returns-3
 unfolding firstLine
