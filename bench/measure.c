@@ -1,0 +1,188 @@
+/* Times each call of the archive beside the same algorithm in plain C and beside SQLite, on the sites and checks of shops.c. Prints a
+ * line for each call, site and check, its columns apart by tabs:
+ *   call, site, rows of the site, check, triple patterns, rows of the answer (-1 for none by refusal 21), then for each engine the
+ *   median and the two quartiles in nanoseconds; 0 where an engine has no such call.
+ * `measure --inputs` prints the sites and the checks in hexadecimal and times nothing.
+ * All engines run in one process; their repeats are interleaved, so that what slows the machine slows them alike. */
+#define _POSIX_C_SOURCE 199309L
+#include "closing.h"
+#include "peer.h"
+#include "plain.h"
+#include "shops.h"
+
+#include <inttypes.h>
+#include <stdio.h>
+#include <stdlib.h>
+#include <string.h>
+#include <time.h>
+
+enum { SAMPLES = 21, ENGINES = 4, STORE_WORDS = CLOSING_STORE_WORDS, ROW_WORDS = 1 << 20 };
+
+static struct workload workload;
+static uint32_t store[STORE_WORDS], rows[ROW_WORDS];
+static size_t used;
+static uint8_t plan[16];
+static size_t plan_bytes;
+static uint64_t answer[4];
+static const struct bytes *check;
+static struct peer *peer;
+
+/* ---- what is timed */
+
+typedef void call(void);
+
+static void engine_build(void) {
+    closing_build(1000, workload.site.byte, workload.site.size, store, STORE_WORDS, answer);
+}
+
+static void c_build(void) {
+    plain_build(1000, workload.site.byte, workload.site.size, store, STORE_WORDS, answer);
+}
+
+static void peer_build(void) {
+    peer_close(peer_load(workload.site.byte, workload.site.size));
+}
+
+static void engine_plan(void) {
+    closing_plan(store, used, check->byte, check->size, plan, answer);
+}
+
+static void c_plan(void) {
+    plain_plan(store, used, check->byte, check->size, plan, answer);
+}
+
+static void engine_run(void) {
+    closing_run(store, used, check->byte, check->size, plan, plan_bytes, rows, ROW_WORDS, answer);
+}
+
+static void c_run(void) {
+    plain_run(store, used, check->byte, check->size, plan, plan_bytes, rows, ROW_WORDS, answer);
+}
+
+static void peer_ask(void) {
+    uint32_t width;
+    peer_query(peer, rows, ROW_WORDS, &width);
+}
+
+static void peer_ask_checked(void) {
+    peer_quick_check(peer);
+    peer_ask();
+}
+
+/* ---- time */
+
+static double now(void) {
+    struct timespec t;
+    clock_gettime(CLOCK_MONOTONIC, &t);
+    return (double)t.tv_sec * 1e9 + (double)t.tv_nsec;
+}
+
+/* So many calls take at least half a millisecond. */
+static uint32_t repeats_of(call *f) {
+    for (uint32_t n = 1;; n *= 2) {
+        double start = now();
+        for (uint32_t i = 0; i < n; i++)
+            f();
+        if (now() - start > 5e5)
+            return n;
+    }
+}
+
+static int compare_doubles(const void *a, const void *b) {
+    double x = *(const double *)a, y = *(const double *)b;
+    return (x > y) - (x < y);
+}
+
+static void time_calls(call *const f[ENGINES]) {
+    double sample[ENGINES][SAMPLES];
+    uint32_t repeats[ENGINES];
+    for (int e = 0; e < ENGINES; e++)
+        repeats[e] = f[e] ? repeats_of(f[e]) : 0;
+    for (int s = 0; s < SAMPLES; s++)
+        for (int e = 0; e < ENGINES; e++) {
+            double start = now();
+            for (uint32_t i = 0; i < repeats[e]; i++)
+                f[e]();
+            sample[e][s] = f[e] ? (now() - start) / repeats[e] : 0;
+        }
+    for (int e = 0; e < ENGINES; e++) {
+        qsort(sample[e], SAMPLES, sizeof sample[e][0], compare_doubles);
+        printf("\t%.0f\t%.0f\t%.0f", sample[e][SAMPLES / 2], sample[e][SAMPLES / 4], sample[e][3 * SAMPLES / 4]);
+    }
+    printf("\n");
+    fflush(stdout);
+}
+
+static void print_line(const char *name, long found) {
+    printf("%s\t%s\t%" PRIu32 "\t%s\t%u\t%ld", name, workload.site.name, workload.rows, check ? check->name : "", check ? check->byte[0] : 0u, found);
+}
+
+/* ---- the workloads */
+
+/* The rows that the engine gives are SQLite's; -1 where they do not fit. */
+static long rows_found(void) {
+    static uint32_t other[ROW_WORDS];
+    uint32_t width = 0, number = closing_run(store, used, check->byte, check->size, plan, plan_bytes, rows, ROW_WORDS, answer);
+    size_t found = peer_query(peer, other, ROW_WORDS, &width);
+    long count = number == 21 ? -1 : answer[0] == CLOSING_ROWS ? (long)answer[1] : 0;
+    if ((found == SIZE_MAX) != (count < 0) || (count >= 0 && ((long)found != count || memcmp(rows, other, 4 * found * width) != 0))) {
+        fprintf(stderr, "%s, %s: the rows are not SQLite's\n", workload.site.name, check->name);
+        exit(1);
+    }
+    return count;
+}
+
+static void measure_check(void) {
+    static uint8_t own[16];
+    closing_plan(store, used, check->byte, check->size, plan, answer);
+    plan_bytes = 2 * (size_t)answer[1];
+    memcpy(own, plan, sizeof own);
+    peer_prepare(peer, check->byte, check->size);
+    long found = rows_found();
+    print_line("plan", found);
+    time_calls((call *const[]){engine_plan, c_plan, NULL, NULL});
+    print_line("run", found);
+    time_calls((call *const[]){engine_run, c_run, peer_ask, peer_ask_checked});
+    for (size_t n = 0; n < plan_bytes; n += 2)
+        plan[n + 1] = 0;
+    if (memcmp(plan, own, sizeof own) != 0) {
+        print_line("run, VP alone", rows_found());
+        time_calls((call *const[]){engine_run, c_run, NULL, NULL});
+    }
+}
+
+static void print_bytes(const char *kind, const struct bytes *file) {
+    printf("%s\t%s\t", kind, file->name);
+    for (size_t i = 0; i < file->size; i++)
+        printf("%02x", file->byte[i]);
+    printf("\n");
+}
+
+/* What is measured, for whoever counts rows and comparisons. */
+static void print_inputs(void) {
+    print_bytes("site", &workload.site);
+    for (size_t c = 0; c < workload.checks; c++)
+        print_bytes("check", &workload.check[c]);
+}
+
+int main(int argc, char **argv) {
+    for (size_t k = 0; k < SITES; k++) {
+        make_workload(k, &workload);
+        if (argc > 1 && strcmp(argv[1], "--inputs") == 0) {
+            print_inputs();
+            continue;
+        }
+        check = NULL;
+        engine_build();
+        used = (size_t)answer[1];
+        print_line("build", (long)used);
+        time_calls((call *const[]){engine_build, c_build, peer_build, NULL});
+        peer = peer_load(workload.site.byte, workload.site.size);
+        for (size_t c = 0; c < workload.checks; c++) {
+            check = &workload.check[c];
+            measure_check();
+        }
+        peer_close(peer);
+    }
+    return 0;
+}

@@ -1,0 +1,249 @@
+#!/usr/bin/env python3
+"""Writes bench/RESULTS.md and bench/plot.svg from what bench/run measured, in the folder that is its one argument."""
+from bisect import bisect_left, bisect_right
+import math
+import os
+import platform
+import sys
+
+HERE = os.path.dirname(os.path.abspath(__file__))
+sys.path.insert(0, os.path.join(HERE, '..', 'tools'))
+
+from reference import KINDS, layout, plan, read_pattern, read_site
+
+ENGINE, PLAIN, QUERY, CHECKED = range(4)
+
+
+def lines(folder, name):
+    with open(os.path.join(folder, name)) as file:
+        return [line.rstrip('\n') for line in file]
+
+
+class Line:
+    """One line of times.txt: a call on a site, with each engine's median and quartiles."""
+
+    def __init__(self, text):
+        self.call, self.site, rows, self.check, count, found, *times = text.split('\t')
+        self.rows, self.count, self.found = int(rows), int(count), int(found)
+        self.times = [tuple(float(x) for x in times[3 * e:3 * e + 3]) for e in range(4)]
+
+    def median(self, engine):
+        return self.times[engine][0]
+
+    def spread(self, engine):
+        middle, low, high = self.times[engine]
+        return (high - low) / middle if middle else 0
+
+    def ratio(self, engine):
+        """The engine's time over another's."""
+        return self.median(ENGINE) / self.median(engine) if self.median(engine) else None
+
+
+def inputs(folder):
+    """The sites with their checks."""
+    sites = []
+    for line in lines(folder, 'inputs.txt'):
+        kind, name, data = line.split('\t')
+        if kind == 'site':
+            sites.append((name, read_site(bytes.fromhex(data)), []))
+        else:
+            sites[-1][2].append((name, bytes.fromhex(data)))
+    return sites
+
+
+# ---- what is counted, by computation
+
+def first_partner(values, value):
+    return values.index(value) + 1 if value in values else len(values)
+
+
+def comparisons(site):
+    """Of one pass over all semi-joins: a row is compared with partners up to its first."""
+    return sum(first_partner([row[other] for row in q], row[own]) for _, p in site for _, q in site for own, other in KINDS for row in p)
+
+
+def searches(site):
+    """Of one pass with a binary search for each row's partner: the steps of the searches."""
+    return sum(math.ceil(math.log2(len(q) + 1)) for _, p in site for _, q in site for _ in KINDS for _ in p)
+
+
+def chosen_table(tables, pattern, place, choice):
+    full = tables[pattern[place][1][1]]
+    if choice == 0:
+        return full
+    (own, other), j = KINDS[(choice - 1) % 3], (choice - 1) // 3
+    values = {row[other] for row in tables[pattern[j][1][1]]}
+    return [row for row in full if row[own] in values]
+
+
+def extended(triple, row, terms):
+    more = dict(terms)
+    for (kind, value), term in zip((triple[0], triple[2]), row):
+        if term != (value if kind == 'term' else more.setdefault(value, term)):
+            return None
+    return more
+
+
+def known_subject(triple, terms):
+    kind, value = triple[0]
+    return value if kind == 'term' else terms.get(value)
+
+
+def rows_read(site, check, steps):
+    """Each partial solution reads every row of the next table; and how many rows a search by a known subject would leave to read."""
+    tables, partials, read, searched = dict(site), [{}], 0, 0
+    pattern = read_pattern(tables, check)
+    for place, choice in steps:
+        table = chosen_table(tables, pattern, place, choice)
+        subjects = [row[0] for row in table]
+        read += len(partials) * len(table)
+        for terms in partials:
+            subject = known_subject(pattern[place], terms)
+            searched += len(table) if subject is None else bisect_right(subjects, subject) - bisect_left(subjects, subject)
+        partials = [more for terms in partials for row in table if (more := extended(pattern[place], row, terms)) is not None]
+    return read, searched
+
+
+# ---- text
+
+def time_text(nanoseconds):
+    for unit, size in (('ms', 1e6), ('µs', 1e3)):
+        if nanoseconds >= size:
+            return '%.3g %s' % (nanoseconds / size, unit)
+    return '%.0f ns' % nanoseconds
+
+
+def cell(value, form='%.2f'):
+    return form % value if value is not None else ''
+
+
+def table(head, rows):
+    out = ['| ' + ' | '.join(head) + ' |', '|' + '---|' * len(head)]
+    return out + ['| ' + ' | '.join(str(x) for x in row) + ' |' for row in rows]
+
+
+def found_text(found):
+    return 'more than fit' if found < 0 else 'none' if found == 0 else '{:,}'.format(found)
+
+
+def exponent(points):
+    """Of time in rows: the slope of the line through the logarithms."""
+    xs, ys = [math.log(x) for x, _ in points], [math.log(y) for _, y in points]
+    mx, my = sum(xs) / len(xs), sum(ys) / len(ys)
+    return sum((x - mx) * (y - my) for x, y in zip(xs, ys)) / sum((x - mx) ** 2 for x in xs)
+
+
+def shops(measured, call, check):
+    return [(line.rows, line) for line in measured if line.site.startswith('shop of') and line.call == call and line.check == check]
+
+
+GROWTH = [('build', ''), ('plan', 'path: sensors of open doors'), ('run', 'path: sensors of open doors'), ('run', 'star: door, zone, battery')]
+
+
+def build_table(measured, sites):
+    rows = []
+    for line in (line for line in measured if line.call == 'build'):
+        site = next(site for name, site, _ in sites if name == line.site)
+        rows.append((line.site, '{:,}'.format(line.found), '{:,}'.format(comparisons(site)), '{:,}'.format(searches(site)), time_text(line.median(ENGINE)),
+                     time_text(line.median(PLAIN)), cell(line.ratio(PLAIN)), time_text(line.median(QUERY)), cell(line.ratio(QUERY))))
+    return table(('site', 'words', 'comparisons of one pass', 'by search', 'engine', 'plain C', 'engine / C', 'SQLite load', 'engine / load'), rows)
+
+
+def plan_table(measured):
+    rows = [(line.site, line.check, time_text(line.median(ENGINE)), time_text(line.median(PLAIN)), cell(line.ratio(PLAIN)))
+            for line in measured if line.call == 'plan']
+    return table(('site', 'check', 'engine', 'plain C', 'engine / C'), rows)
+
+
+def run_table(measured, sites):
+    rows = []
+    for line in (line for line in measured if line.call == 'run'):
+        _, site, checks = next(entry for entry in sites if entry[0] == line.site)
+        check = dict(checks)[line.check]
+        # none by the counts is answered before a row is read
+        read, searched = (0, 0) if line.check == 'none by the counts' else rows_read(site, check, plan(layout(1000, site), check))
+        rows.append((line.site, line.check, line.count, found_text(line.found), '{:,}'.format(read), '{:,}'.format(searched), time_text(line.median(ENGINE)),
+                     time_text(line.median(PLAIN)), cell(line.ratio(PLAIN)), time_text(line.median(QUERY)), cell(line.ratio(QUERY)),
+                     time_text(line.median(CHECKED)), cell(line.ratio(CHECKED), '%.3f')))
+    head = ('site', 'check', 'N', 'rows', 'rows read', 'by search', 'engine', 'plain C', 'engine / C', 'SQLite', 'engine / SQLite', 'with quick_check', 'engine / that')
+    return table(head, rows)
+
+
+def reduced_table(measured):
+    rows = []
+    for line in (line for line in measured if line.call == 'run, VP alone'):
+        own = next(x for x in measured if x.call == 'run' and (x.site, x.check) == (line.site, line.check))
+        rows.append((line.site, line.check, time_text(own.median(ENGINE)), time_text(line.median(ENGINE)), cell(own.median(ENGINE) / line.median(ENGINE))))
+    return table(('site', 'check', "the planner's tables", 'VP alone', 'ratio'), rows)
+
+
+def growth_table(measured):
+    rows = []
+    for call, check in GROWTH:
+        points = shops(measured, call, check)
+        rows.append((call, check) + tuple(cell(exponent([(n, line.median(engine)) for n, line in points])) for engine in (ENGINE, PLAIN)))
+    return table(('call', 'check', 'engine', 'plain C'), rows)
+
+
+def results(folder):
+    measured = [Line(text) for text in lines(folder, 'times.txt')]
+    sites = inputs(folder)
+    small = dict(line.split() for line in lines(folder, 'stack.txt')), dict(line.split() for line in lines(folder, 'instructions.txt'))
+    code = lines(folder, 'size.txt')[-1].split()
+    worst = max(line.spread(engine) for line in measured for engine in range(4))
+    slower = sorted({line.ratio(PLAIN) for line in measured if line.ratio(PLAIN)})
+    text = ['# What a closing check costs', '', 'Written by `bench/run`; medians of 21 interleaved repeats in one process, on %s. Compare ratios of' % platform.machine(),
+            'one run, not times of two. The widest distance between quartiles was %.0f %% of a median.' % (100 * worst), '',
+            'Engine over plain C: from %.2f to %.2f, the middle one %.2f.' % (slower[0], slower[-1], slower[len(slower) // 2]), '',
+            '![time of a run by rows of the site](plot.svg)', '', '## Build', '']
+    text += build_table(measured, sites) + ['', '## Plan', ''] + plan_table(measured) + ['', '## Run', ''] + run_table(measured, sites)
+    text += ['', '## Reduced tables', ''] + reduced_table(measured) + ['', '## How cost grows with rows', '', 'The exponent of time in rows, over shops of 16 to 1,024 rows.', '']
+    text += growth_table(measured) + ['', '## Sizes', '']
+    text += table(('what', 'build', 'plan', 'run'), [('stack of a call, bytes',) + tuple('{:,}'.format(int(small[0][c])) for c in ('build', 'plan', 'run')),
+                                                     ('instructions on the worked shop',) + tuple('{:,}'.format(int(small[1][c])) for c in ('build', 'plan', 'run'))])
+    text += ['', 'Code of the archive: {:,} bytes.'.format(int(code[0])), '', '## Agreement', '', '. '.join(lines(folder, 'agree.txt')) + '.', '']
+    with open(os.path.join(HERE, 'NOTES.md')) as notes:
+        text.append(notes.read())
+    return measured, '\n'.join(text)
+
+
+# ---- the plot: time by rows of the site, both axes logarithmic
+
+def plot(measured):
+    call, check = 'run', 'path: sensors of open doors'
+    points = shops(measured, call, check)
+    series = [('engine', ENGINE, '#1b6ca8'), ('plain C', PLAIN, '#2a9d5c'), ('SQLite', QUERY, '#c46210'), ('SQLite with quick_check', CHECKED, '#8a2d3b')]
+    values = [line.median(e) for _, line in points for _, e, _ in series]
+    low, high = math.floor(math.log10(min(values))), math.ceil(math.log10(max(values)))
+
+    def x(rows):
+        return 90 + 480 * (math.log(rows, 4) - 2) / 3
+
+    def y(time):
+        return 330 - 290 * (math.log10(time) - low) / (high - low)
+
+    out = ['<svg xmlns="http://www.w3.org/2000/svg" width="760" height="390" font-family="sans-serif" font-size="13">',
+           '<rect width="760" height="390" fill="white"/>', '<text x="90" y="24" font-size="15">A run of "sensors of open doors", by rows of the shop</text>']
+    for power in range(low, high + 1):
+        out.append('<line x1="90" x2="570" y1="%.1f" y2="%.1f" stroke="#ddd"/><text x="82" y="%.1f" text-anchor="end">%s</text>'
+                   % (y(10 ** power), y(10 ** power), y(10 ** power) + 4, time_text(10 ** power)))
+    for rows, _ in points:
+        out.append('<text x="%.1f" y="352" text-anchor="middle">%s</text>' % (x(rows), '{:,}'.format(rows)))
+    out.append('<text x="330" y="376" text-anchor="middle">rows of the site</text>')
+    for name, engine, colour in series:
+        path = ' '.join('%.1f,%.1f' % (x(rows), y(line.median(engine))) for rows, line in points)
+        out.append('<polyline points="%s" fill="none" stroke="%s" stroke-width="2"/>' % (path, colour))
+        out += ['<circle cx="%.1f" cy="%.1f" r="3.5" fill="%s"/>' % (x(rows), y(line.median(engine)), colour) for rows, line in points]
+        out.append('<text x="580" y="%.1f" fill="%s">%s</text>' % (y(points[-1][1].median(engine)) + 4, colour, name))
+    return '\n'.join(out + ['</svg>', ''])
+
+
+def main():
+    measured, text = results(sys.argv[1])
+    for name, content in (('RESULTS.md', text), ('plot.svg', plot(measured))):
+        with open(os.path.join(HERE, name), 'w') as file:
+            file.write(content)
+    print('bench/RESULTS.md and bench/plot.svg are written')
+
+
+main()

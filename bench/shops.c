@@ -1,0 +1,153 @@
+#include "shops.h"
+
+#include <stdio.h>
+#include <string.h>
+
+/* ---- files */
+
+static void put_number(struct bytes *file, uint32_t value) {
+    while (value >= 0x80) {
+        file->byte[file->size++] = (uint8_t)((value & 0x7F) | 0x80);
+        value >>= 7;
+    }
+    file->byte[file->size++] = (uint8_t)value;
+}
+
+static void name_file(struct bytes *file, const char *name, uint32_t number) {
+    file->size = 0;
+    snprintf(file->name, sizeof file->name, name, (unsigned)number);
+}
+
+/* ---- checks: triple patterns of ?0 to ?7 and terms */
+
+static uint32_t variable(uint32_t v) {
+    return 2 * v + 1;
+}
+
+static uint32_t term(uint32_t t) {
+    return 2 * t;
+}
+
+static void add_check(struct workload *workload, const char *name, uint32_t count, const uint32_t triple[][3]) {
+    struct bytes *check = &workload->check[workload->checks++];
+    name_file(check, name, count);
+    put_number(check, count);
+    for (uint32_t i = 0; i < count; i++)
+        for (int column = 0; column < 3; column++)
+            put_number(check, triple[i][column]);
+}
+
+enum { COVERS = 1, IN = 2, STATE = 3, BATTERY = 4, CLOSED = 40, OPEN = 41, AJAR = 42, LOW = 50, GOOD = 51 };
+
+enum { FIRST_SENSOR = 1000, FIRST_DOOR = 3000, FIRST_ZONE = 5000 };
+
+/* The shapes of the S2RDF paper over a shop: star, path, snowflake and a cross join; none, few and many rows. */
+static void add_shop_checks(struct workload *w) {
+    const uint32_t s = variable(0), covers = term(COVERS), in = term(IN), state = term(STATE), battery = term(BATTERY);
+    add_check(w, "one: open doors", 1, (const uint32_t[][3]){{s, state, term(OPEN)}});
+    add_check(w, "one: all of a table", 1, (const uint32_t[][3]){{s, covers, variable(1)}});
+    add_check(w, "path: sensors of open doors", 2, (const uint32_t[][3]){{s, covers, variable(1)}, {variable(1), state, term(OPEN)}});
+    add_check(w, "star: door, zone, battery", 3,
+              (const uint32_t[][3]){{s, covers, variable(1)}, {s, in, variable(2)}, {s, battery, variable(3)}});
+    add_check(w, "snowflake: open, low battery", 4,
+              (const uint32_t[][3]){{s, covers, variable(1)}, {s, in, variable(2)}, {variable(1), state, term(OPEN)}, {s, battery, term(LOW)}});
+    add_check(w, "cross join: low, open", 2, (const uint32_t[][3]){{s, battery, term(LOW)}, {variable(1), state, term(OPEN)}});
+    add_check(w, "none by the join: ajar", 3,
+              (const uint32_t[][3]){{s, covers, variable(1)}, {s, in, variable(2)}, {variable(1), state, term(AJAR)}});
+    add_check(w, "none by the counts", 2, (const uint32_t[][3]){{s, state, variable(1)}, {variable(1), state, variable(2)}});
+    add_check(w, "path of 5", 5,
+              (const uint32_t[][3]){{s, battery, term(GOOD)},
+                                    {s, in, variable(1)},
+                                    {variable(2), in, variable(1)},
+                                    {variable(2), covers, variable(3)},
+                                    {variable(3), state, term(OPEN)}});
+    add_check(w, "star of 8", 8,
+              (const uint32_t[][3]){{s, covers, variable(1)},
+                                    {s, in, variable(2)},
+                                    {s, battery, variable(3)},
+                                    {s, covers, variable(4)},
+                                    {s, in, variable(5)},
+                                    {s, battery, variable(6)},
+                                    {variable(1), state, variable(7)},
+                                    {variable(4), state, term(OPEN)}});
+}
+
+/* ---- sites */
+
+/* A shop of so many rows: three in ten are sensors that cover a door, and as many that sit in a zone; two in ten are doors with their
+ * state, and as many sensors with their battery. One door in eight is open, one battery in eight is low. */
+static void make_shop(struct workload *w, uint32_t rows) {
+    uint32_t sensors = rows * 3 / 10, doors = rows / 5, batteries = rows - 2 * sensors - doors, zones = 1 + rows / 40;
+    const uint32_t count[4] = {sensors, sensors, doors, batteries};
+    name_file(&w->site, "shop of %u rows", rows);
+    w->rows = rows;
+    put_number(&w->site, 4);
+    for (uint32_t p = 0; p < 4; p++) {
+        put_number(&w->site, COVERS + p);
+        put_number(&w->site, count[p]);
+    }
+    for (uint32_t p = 0; p < 4; p++)
+        for (uint32_t r = 0; r < count[p]; r++) {
+            const uint32_t object[4] = {FIRST_DOOR + r * doors / sensors, FIRST_ZONE + r % zones, r % 8 == 5 ? OPEN : CLOSED, r % 8 == 3 ? LOW : GOOD};
+            put_number(&w->site, p == 2 ? FIRST_DOOR + r : FIRST_SENSOR + r);
+            put_number(&w->site, object[p]);
+        }
+    add_shop_checks(w);
+}
+
+/* 01's worked shop, and its check. */
+static void make_worked(struct workload *w) {
+    static const uint8_t site[] = {3, 1, 3, 2, 2, 3, 2, 10, 20, 11, 21, 12, 21, 10, 30, 11, 30, 20, 40, 21, 41};
+    static const uint8_t check[] = {3, 1, 2, 3, 1, 4, 5, 3, 6, 82};
+    name_file(&w->site, "worked shop", 0);
+    memcpy(w->site.byte, site, w->site.size = sizeof site);
+    w->rows = 7;
+    name_file(&w->check[0], "01's check", 0);
+    memcpy(w->check[0].byte, check, w->check[0].size = sizeof check);
+    w->checks = 1;
+}
+
+/* Tables of so many predicates and rows each, whose subjects and objects have no partner in another table, or partners everywhere. */
+static void make_tables(struct workload *w, const char *name, uint32_t predicates, uint32_t each, int partners) {
+    name_file(&w->site, name, predicates);
+    w->rows = predicates * each;
+    put_number(&w->site, predicates);
+    for (uint32_t p = 0; p < predicates; p++) {
+        put_number(&w->site, p + 1);
+        put_number(&w->site, each);
+    }
+    for (uint32_t p = 0; p < predicates; p++)
+        for (uint32_t r = 0; r < each; r++) {
+            put_number(&w->site, partners ? r + 1 : 100 + p * each + r);
+            put_number(&w->site, partners ? each - r : 10000 + p * each + r);
+        }
+    add_check(w, "one: all of a table", 1, (const uint32_t[][3]){{variable(0), term(1), variable(1)}});
+    if (predicates > 1) {
+        add_check(w, "path of 2", 2, (const uint32_t[][3]){{variable(0), term(1), variable(1)}, {variable(1), term(2), variable(2)}});
+        add_check(w, "path of 4", 4,
+                  (const uint32_t[][3]){{variable(0), term(1), variable(1)},
+                                        {variable(1), term(2), variable(2)},
+                                        {variable(2), term(3), variable(3)},
+                                        {variable(3), term(4), variable(4)}});
+    }
+}
+
+void make_workload(size_t k, struct workload *w) {
+    memset(w, 0, sizeof *w);
+    switch (k) {
+    case 0:
+        make_worked(w);
+        break;
+    case 5:
+        make_tables(w, "%u x 64 rows, no partner", 16, 64, 0);
+        break;
+    case 6:
+        make_tables(w, "%u x 64 rows, partners", 16, 64, 1);
+        break;
+    case 7:
+        make_tables(w, "%u x 1,024 rows, no partner", 1, 1024, 0);
+        break;
+    default:
+        make_shop(w, 4u << (2 * k));
+    }
+}
