@@ -113,6 +113,11 @@ def time_text(nanoseconds):
     return '%.0f ns' % nanoseconds
 
 
+def timed(line, engine):
+    """The median, and half of the distance between the quartiles."""
+    return '%s ± %.0f %%' % (time_text(line.median(engine)), 50 * line.spread(engine))
+
+
 def cell(value, form='%.2f'):
     return form % value if value is not None else ''
 
@@ -144,13 +149,13 @@ def build_table(measured, sites):
     rows = []
     for line in (line for line in measured if line.call == 'build'):
         site = next(site for name, site, _ in sites if name == line.site)
-        rows.append((line.site, '{:,}'.format(line.found), '{:,}'.format(comparisons(site)), '{:,}'.format(searches(site)), time_text(line.median(ENGINE)),
-                     time_text(line.median(PLAIN)), cell(line.ratio(PLAIN)), time_text(line.median(QUERY)), cell(line.ratio(QUERY))))
+        rows.append((line.site, '{:,}'.format(line.found), '{:,}'.format(comparisons(site)), '{:,}'.format(searches(site)), timed(line, ENGINE),
+                     timed(line, PLAIN), cell(line.ratio(PLAIN)), timed(line, QUERY), cell(line.ratio(QUERY))))
     return table(('site', 'words', 'comparisons of one pass', 'by search', 'engine', 'plain C', 'engine / C', 'SQLite load', 'engine / load'), rows)
 
 
 def plan_table(measured):
-    rows = [(line.site, line.check, time_text(line.median(ENGINE)), time_text(line.median(PLAIN)), cell(line.ratio(PLAIN)))
+    rows = [(line.site, line.check, timed(line, ENGINE), timed(line, PLAIN), cell(line.ratio(PLAIN)))
             for line in measured if line.call == 'plan']
     return table(('site', 'check', 'engine', 'plain C', 'engine / C'), rows)
 
@@ -162,9 +167,9 @@ def run_table(measured, sites):
         check = dict(checks)[line.check]
         # none by the counts is answered before a row is read
         read, searched = (0, 0) if line.check == 'none by the counts' else rows_read(site, check, plan(layout(1000, site), check))
-        rows.append((line.site, line.check, line.count, found_text(line.found), '{:,}'.format(read), '{:,}'.format(searched), time_text(line.median(ENGINE)),
-                     time_text(line.median(PLAIN)), cell(line.ratio(PLAIN)), time_text(line.median(QUERY)), cell(line.ratio(QUERY)),
-                     time_text(line.median(CHECKED)), cell(line.ratio(CHECKED), '%.3f')))
+        rows.append((line.site, line.check, line.count, found_text(line.found), '{:,}'.format(read), '{:,}'.format(searched), timed(line, ENGINE),
+                     timed(line, PLAIN), cell(line.ratio(PLAIN)), timed(line, QUERY), cell(line.ratio(QUERY)),
+                     timed(line, CHECKED), cell(line.ratio(CHECKED), '%.3f')))
     head = ('site', 'check', 'N', 'rows', 'rows read', 'by search', 'engine', 'plain C', 'engine / C', 'SQLite', 'engine / SQLite', 'with quick_check', 'engine / that')
     return table(head, rows)
 
@@ -173,7 +178,7 @@ def reduced_table(measured):
     rows = []
     for line in (line for line in measured if line.call == 'run, VP alone'):
         own = next(x for x in measured if x.call == 'run' and (x.site, x.check) == (line.site, line.check))
-        rows.append((line.site, line.check, time_text(own.median(ENGINE)), time_text(line.median(ENGINE)), cell(own.median(ENGINE) / line.median(ENGINE))))
+        rows.append((line.site, line.check, timed(own, ENGINE), timed(line, ENGINE), cell(own.median(ENGINE) / line.median(ENGINE))))
     return table(('site', 'check', "the planner's tables", 'VP alone', 'ratio'), rows)
 
 
@@ -234,7 +239,11 @@ def plot(measured):
         path = ' '.join('%.1f,%.1f' % (x(rows), y(line.median(engine))) for rows, line in points)
         out.append('<polyline points="%s" fill="none" stroke="%s" stroke-width="2"/>' % (path, colour))
         out += ['<circle cx="%.1f" cy="%.1f" r="3.5" fill="%s"/>' % (x(rows), y(line.median(engine)), colour) for rows, line in points]
-        out.append('<text x="580" y="%.1f" fill="%s">%s</text>' % (y(points[-1][1].median(engine)) + 4, colour, name))
+    place = 0
+    for name, engine, colour in sorted(series, key=lambda entry: -points[-1][1].median(entry[1])):
+        # names of lines that end close together stand below one another
+        place = max(place + 16, y(points[-1][1].median(engine)) + 4)
+        out.append('<text x="580" y="%.1f" fill="%s">%s</text>' % (place, colour, name))
     return '\n'.join(out + ['</svg>', ''])
 
 

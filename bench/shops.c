@@ -61,6 +61,21 @@ static void add_shop_checks(struct workload *w) {
                                     {variable(2), in, variable(1)},
                                     {variable(2), covers, variable(3)},
                                     {variable(3), state, term(OPEN)}});
+    add_check(w, "star and path of 6", 6,
+              (const uint32_t[][3]){{s, covers, variable(1)},
+                                    {s, in, variable(2)},
+                                    {s, battery, variable(3)},
+                                    {variable(1), state, term(OPEN)},
+                                    {variable(4), in, variable(2)},
+                                    {variable(4), battery, term(LOW)}});
+    add_check(w, "snowflake of 7", 7,
+              (const uint32_t[][3]){{s, covers, variable(1)},
+                                    {variable(1), state, variable(2)},
+                                    {s, in, variable(3)},
+                                    {variable(4), in, variable(3)},
+                                    {variable(4), covers, variable(5)},
+                                    {variable(5), state, term(OPEN)},
+                                    {variable(4), battery, term(LOW)}});
     add_check(w, "star of 8", 8,
               (const uint32_t[][3]){{s, covers, variable(1)},
                                     {s, in, variable(2)},

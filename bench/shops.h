@@ -5,7 +5,7 @@
 #include <stddef.h>
 #include <stdint.h>
 
-enum { SITES = 8, CHECKS = 10, MOST_SITE_BYTES = 8192, MOST_CHECK_BYTES = 128 };
+enum { SITES = 8, CHECKS = 12, MOST_SITE_BYTES = 8192, MOST_CHECK_BYTES = 128 };
 
 struct bytes {
     char name[40];
