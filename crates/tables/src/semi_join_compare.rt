@@ -33,7 +33,6 @@ pub fn compare_semi_join(
         let mut j: usize = 0;
         while j < n {
             let other_value = w[q + 2 * j + other];
-            j += 1;
             if other_value == value {
                 if next == end {
                     return false;
@@ -44,6 +43,7 @@ pub fn compare_semi_join(
                 next += 2;
                 continue 'rows;
             }
+            j += 1;
         }
     }
     next == end

@@ -28,11 +28,11 @@ pub fn count_semi_join(
         let mut j: usize = 0;
         while j < n {
             let other_value = w[q + 2 * j + other];
-            j += 1;
             if other_value == value {
                 kept += 1;
                 continue 'rows;
             }
+            j += 1;
         }
     }
     kept

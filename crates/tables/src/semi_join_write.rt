@@ -33,13 +33,13 @@ pub fn write_semi_join(
         let mut j: usize = 0;
         while j < n {
             let other_value = w[q + 2 * j + other];
-            j += 1;
             if other_value == value {
                 out[next] = w[p + 2 * row];
                 out[next + 1] = w[p + 2 * row + 1];
                 next += 2;
                 continue 'rows;
             }
+            j += 1;
         }
     }
     next

@@ -234,7 +234,6 @@ compare-semi-join-spec =
     add-other-value-2
     mul-other-value-2
     shared-slice-read-other-value
-    add-j
     returns
     mul-if3
     shared-slice-read-if3
@@ -254,6 +253,7 @@ compare-semi-join-spec =
     add-next
     rows-less-2
     rows-again-2
+    add-j
     loop-less
     loop-again
     returns-3)

@@ -131,10 +131,10 @@ count-semi-join-spec =
     add-other-value-2
     mul-other-value-2
     shared-slice-read-other-value
-    add-j
     add-kept
     rows-less-2
     rows-again-2
+    add-j
     loop-less
     loop-again
     returns)

@@ -203,7 +203,6 @@ write-semi-join-spec =
     add-other-value-2
     mul-other-value-2
     shared-slice-read-other-value
-    add-j
     mul-out
     add-out
     mul-out-2
@@ -221,6 +220,7 @@ write-semi-join-spec =
     add-next
     rows-less-2
     rows-again-2
+    add-j
     loop-less
     loop-again
     same-length
