@@ -21,7 +21,7 @@ use Rattle.model.proofs.Patterns.{columns, width-limit, variable-named,
 abbrev pub stands : Pattern → ℕ → Bool
 stands pattern v = any (sameVariable (Var v)) (each positions pattern)
 
-is-variable : (v : ℕ) (x : Position) → sameVariable (Var v) x ≡ true → Var v ≡ x
+pub is-variable : (v : ℕ) (x : Position) → sameVariable (Var v) x ≡ true → Var v ≡ x
 is-variable v (Term t) h = absurd (false≢true h)
 is-variable v (Var w) h = ap Var (eqb-true v w h)
 

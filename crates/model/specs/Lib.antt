@@ -17,3 +17,4 @@ pub mod Calls
 pub mod Answers
 pub mod Chain
 pub mod Text
+pub mod Parts
