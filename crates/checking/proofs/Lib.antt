@@ -1,4 +1,9 @@
 -- The laws the proofs of this crate rest on.
+pub mod Comparing
+pub mod Partnered
+pub mod Apart
+pub mod SortedObjects
+pub mod SearchableTables
 pub mod Declared
 pub mod Tables
 pub mod Join

@@ -1,5 +1,7 @@
 // Question 10: whether words are what some site and some T give; and look-ups in words that are.
 pub mod entries;
 pub mod lookup;
+pub mod objects;
+pub mod partners;
 pub mod semi_joins;
 pub mod store;

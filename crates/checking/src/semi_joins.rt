@@ -2,21 +2,35 @@ ghost use mathlib.Core.Path.{_≡_};
 ghost use Prim.Native.Nat.{_<_, _≤_, _+_, _*_};
 ghost use mathlib.Core.Bool.{cond};
 ghost use lib.ListN.{length};
+ghost use Rattle.model.specs.Site.{rowTotal};
 ghost use Rattle.model.specs.Tables.{kindCount, mostThreshold};
-ghost use Rattle.model.specs.Store.{kept, storedStart};
+ghost use Rattle.model.specs.Store.{kept, rowsStart, storedStart};
 ghost use Rattle.tables.specs.SiteWords.{siteIn, ImageOf, reducedAt};
+ghost use Rattle.checking.specs.Searching.{AllSearchable};
 ghost use Rattle.checking.specs.Joins.{joinHolds, joinsHold};
 ghost use Rattle.checking.specs.declared.entries.Place.the-variants.{At, Wrong};
 use crate::entries::Place;
+use crate::objects::copy_objects;
+use crate::partners::compare_partnered;
+use crate::partners::count_partnered;
 use tables::kinds::KINDS;
 use tables::kinds::is_stored;
 use tables::operands::operands_at;
-use tables::semi_join_compare::compare_semi_join;
-use tables::semi_join_count::count_semi_join;
+use tables::operands::rows_start;
 
 // Where the stored rows of the x-th semi-join end, if they and its entry are as they should be and the rows begin at `here`.
-pub fn semi_join_end(t: usize, w: &[u32], count: usize, x: usize, here: usize, used: usize) -> Place
+pub fn semi_join_end(
+    t: usize,
+    w: &[u32],
+    objects: &[u32],
+    first: usize,
+    count: usize,
+    x: usize,
+    here: usize,
+    used: usize,
+) -> Place
     requires { ⌜ ImageOf count (now w) × (x < count * (count * kindCount)) × (t ≤ mostThreshold) × (here ≤ used) × (used ≤ length (now w)) ⌝ }
+    requires { ⌜ AllSearchable count (now w) (now objects) count × (first ≡ rowsStart count) ⌝ }
     ensures { λ r. ⌜ r ≡ cond (joinHolds t (now (w .entry)) (reducedAt (siteIn count (now (w .entry))) x) (3 + 3 * count + 2 * x) here used) (At (here + 2 * length (kept t (reducedAt (siteIn count (now (w .entry))) x)))) Wrong ⌝ }
 {
     let o = operands_at(w, count, x);
@@ -31,8 +45,10 @@ pub fn semi_join_end(t: usize, w: &[u32], count: usize, x: usize, here: usize, u
         if start != here || used < here + 2 * left {
             return Place::Wrong;
         }
-        if compare_semi_join(
+        if compare_partnered(
             w,
+            objects,
+            first,
             o.start,
             rows,
             o.own,
@@ -47,24 +63,58 @@ pub fn semi_join_end(t: usize, w: &[u32], count: usize, x: usize, here: usize, u
         return Place::Wrong;
     }
     if start != 0
-        || count_semi_join(w, o.start, rows, o.own, o.against, o.partners, o.other) != left
+        || count_partnered(
+            w,
+            objects,
+            first,
+            o.start,
+            rows,
+            o.own,
+            o.against,
+            o.partners,
+            o.other,
+        )
+            != left
     {
         return Place::Wrong;
     }
     Place::At(here)
 }
 
-// Whether the entries and the stored rows of all semi-joins are as they should be, and the last rows end at `used`.
-pub fn semi_joins_hold(t: usize, w: &[u32], count: usize, first: usize, used: usize) -> bool
-    requires { ⌜ ImageOf count (now w) × (t ≤ mostThreshold) × (first ≡ storedStart (siteIn count (now w))) × (first ≤ used) × (used ≤ length (now w)) ⌝ }
+// Whether the entries and the stored rows of all semi-joins are as they should be, and the last rows end at `used`; with a lent word for
+// the object of each row.
+fn semi_joins_hold_with(
+    t: usize,
+    w: &[u32],
+    count: usize,
+    first: usize,
+    used: usize,
+    objects: &mut [u32],
+) -> bool
+    requires { ⌜ ImageOf count (now w) × (t ≤ mostThreshold) × (first ≡ storedStart (siteIn count (now w))) × (first ≤ used) × (used ≤ length (now w)) × (rowTotal (siteIn count (now w)) ≤ length (now objects)) ⌝ }
     ensures { λ r. ⌜ r ≡ joinsHold t count (now (w .entry)) used ⌝ }
 {
+    copy_objects(w, count, objects);
+    let rows = rows_start(count);
     let mut here = first;
     for x in 0..count * (count * KINDS) {
-        let Place::At(next) = semi_join_end(t, w, count, x, here, used) else {
+        let Place::At(next) = semi_join_end(t, w, objects, rows, count, x, here, used) else {
             return false;
         };
         here = next;
     }
     here == used
+}
+
+// The same, with words of its own: few for a small site, where to clear them all would cost more than the question.
+pub fn semi_joins_hold(t: usize, w: &[u32], count: usize, first: usize, used: usize) -> bool
+    requires { ⌜ ImageOf count (now w) × (t ≤ mostThreshold) × (first ≡ storedStart (siteIn count (now w))) × (first ≤ used) × (used ≤ length (now w)) ⌝ }
+    ensures { λ r. ⌜ r ≡ joinsHold t count (now (w .entry)) used ⌝ }
+{
+    if first <= rows_start(count) + 2 * 64 {
+        let mut few = [0u32; 64];
+        return semi_joins_hold_with(t, w, count, first, used, &mut few);
+    }
+    let mut objects = [0u32; 1024];
+    semi_joins_hold_with(t, w, count, first, used, &mut objects)
 }

@@ -88,6 +88,8 @@ module _ {count : ℕ} {image : List ℕ} (o : ImageOf count image) (x : ℕ) (h
         own-column = ownColumn .0;
         partner-column = otherColumn .0;
         full = table .count ∙ sym (ap (λ (r : Reduced). length (r .full)) reduced-of);
+        own-table = (ownOf count x, rw (o .predicates) (own-below h), refl, refl);
+        partner-table = (partnerOf count x, rw (o .predicates) (partner-below h), refl, refl);
         left = rw (table .back, partner .back, ownColumn .1, otherColumn .1) (sym (ap (λ (r : Reduced). r .rows) reduced-of));
       }
 

@@ -25,7 +25,7 @@ unfoldable pub hasPartner : List ℕ → ℕ → ℕ → ℕ → ℕ → ℕ →
 hasPartner w p i own q j other = any (arePartners (kindOfColumns own other) (rowAt w p i)) (rowsIn j (drop q w))
 
 -- a column is so many words into the row
-at-column : (w : List ℕ) (p i c : ℕ) → c < 2 → at (columnOf c) (rowAt w p i) ≡ getD w (p + 2 * i + c) 0
+pub at-column : (w : List ℕ) (p i c : ℕ) → c < 2 → at (columnOf c) (rowAt w p i) ≡ getD w (p + 2 * i + c) 0
 at-column w p i zero h = rw add-zero refl
 at-column w p i (suc zero) h = refl
 at-column w p i (suc (suc c)) h = absurd (omega arith)

@@ -65,6 +65,8 @@ pub record OperandsOf (site : Site) (image : List ℕ) (x : ℕ) (r : Operands) 
   pub own-column : r .own < 2
   pub partner-column : r .other < 2
   pub full : r .rows ≡ length (reducedAt site x .full)
+  pub own-table : (i : ℕ) × (i < length site) × (r .rows ≡ getD image (3 + 3 * i + 1) 0) × (r .start ≡ getD image (3 + 3 * i + 2) 0)
+  pub partner-table : (i : ℕ) × (i < length site) × (r .partners ≡ getD image (3 + 3 * i + 1) 0) × (r .against ≡ getD image (3 + 3 * i + 2) 0)
   pub left : semiJoin (kindOfColumns (r .own) (r .other)) (rowsIn (r .rows) (drop (r .start) image)) (rowsIn (r .partners) (drop (r .against) image))
       ≡ reducedAt site x .rows
 

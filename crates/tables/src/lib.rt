@@ -4,6 +4,5 @@ pub mod limits;
 pub mod number;
 pub mod operands;
 pub mod row_order;
-pub mod semi_join_compare;
 pub mod semi_join_count;
 pub mod semi_join_write;

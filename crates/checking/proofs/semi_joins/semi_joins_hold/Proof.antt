@@ -1,83 +1,65 @@
--- The invariant: the first x semi-joins hold, and their stored rows end at `here`.
-use Prim.Native.Nat.{_-_, _≤_}
+-- The words that are lent are as many as the rows, or more.
+use Prim.Native.Nat.{ℕ, _+_, _*_, _≤_}
 use native.Mathlib.Omega.{arith}
-use mathlib.Core.Path.{sym}
+use mathlib.Core.Path.{_≡_, ap, _∙_}
 use borrow.Author.Needs.{needs}
+use Rattle.model.specs.Site.{rowTotal}
+use Rattle.model.specs.Store.{rowsStart}
+use Rattle.model.proofs.Partition.{proper}
+use Rattle.tables.specs.SiteWords.{siteIn}
 use Rattle.tables.proofs.Images.{few-predicates, few-semi-joins}
-use Rattle.checking.proofs.Joined.{Joined, joined-none, joined-more, one-fails, joined-all}
 use Rattle.checking.proofs.semi_joins.semi_joins_hold.Statement.{statement}
 use Rattle.checking.proofs.semi_joins.semi_joins_hold.Tie as tie
 
-abbrev Inv-loop : tie.InvT-loop
-Inv-loop t w count first used here₀ x₀ x-end here x = (x ≤ x-end) × Joined t count w used here x
+-- the rows end behind as many words as are lent to a small site
+few-words : (s : tie.Start) {start : ℕ} → start ≡ rowsStart (s .args .count) → s .args .first ≤ start + 2 * 64
+    → rowTotal (siteIn (s .args .count) (s .args .w .now)) ≤ 64
+few-words s {start} e h =
+    let first : s .args .first ≡ rowsStart (s .args .count) + 2 * rowTotal (siteIn (s .args .count) (s .args .w .now)) =
+    s .pre .2 ∙ ap (λ (k : ℕ). rowsStart k + 2 * rowTotal (siteIn (s .args .count) (s .args .w .now))) (s .pre .0 .predicates) in
+    omega (arith, e, h, first)
 
-abbrev μ-loop : tie.MeasureT-loop
-μ-loop t w count first used here₀ x₀ x-end here x = x-end - x
+rows-start-requires : tie.Need-rows-start-requires
+rows-start-requires c κs = few-predicates (c .before .pre .0)
 
-mul-x-end : tie.Need-mul-x-end Inv-loop μ-loop
-mul-x-end c = omega (arith, few-predicates (c .before .pre .0))
+mul-if1 : tie.Need-mul-if1
+mul-if1 c = search needs
 
-mul-x-end-2 : tie.Need-mul-x-end-2 Inv-loop μ-loop
-mul-x-end-2 c = omega (arith, few-semi-joins (few-predicates (c .before .pre .0)))
+add-if1 : tie.Need-add-if1
+add-if1 c = omega (arith, c .rows-start .ensures, few-semi-joins (few-predicates (c .before .before .pre .0)), few-predicates (c .before .before .pre .0))
 
-loop-holds : tie.Need-loop-holds Inv-loop μ-loop
-loop-holds c =
-    let s = c .before in
-    (omega arith, rw (s .pre .2) (joined-none (s .args .t) _ _ (s .args .used) (rw (s .pre .2) at (s .pre .3))))
+slice-aggregate-semi-joins-hold-with : tie.Need-slice-aggregate-semi-joins-hold-with
+slice-aggregate-semi-joins-hold-with c = search needs
 
-semi-join-end-requires : tie.Need-semi-join-end-requires Inv-loop μ-loop
-semi-join-end-requires c κs =
-    let l = c .before in
-    let s = l .before .before in
-    (s .pre .0, c .loop-test .taken, s .pre .1, l .loop .inv .1 .room, s .pre .4)
+semi-joins-hold-with-requires : tie.Need-semi-joins-hold-with-requires
+semi-joins-hold-with-requires c κs =
+    let s = c .before .before .before .before in
+    (s .pre .0, s .pre .1, s .pre .2, s .pre .3, s .pre .4, few-words s (c .before .before .rows-start .ensures) (c .before .if1 .taken))
 
-enum-known-next : tie.Need-enum-known-next Inv-loop μ-loop
-enum-known-next c = search needs
+returns : tie.Need-returns
+returns c = search needs
 
-enum-told : tie.Need-enum-told Inv-loop μ-loop
-enum-told c = search needs
+slice-aggregate-semi-joins-hold-with-2 : tie.Need-slice-aggregate-semi-joins-hold-with-2
+slice-aggregate-semi-joins-hold-with-2 c = search needs
 
-returns : tie.Need-returns Inv-loop μ-loop
-returns c =
-    let e = c .before .before .semi-join-end .ensures in
-    let l = c .before .before .before .before in
-    let s = l .before .before in
-    sym (one-fails _ _ _ _ (s .pre .0) (s .pre .4) (l .loop .inv .1) (c .before .before .before .loop-test .taken) e (c .enum-told .given .1))
+semi-joins-hold-with-requires-2 : tie.Need-semi-joins-hold-with-requires-2
+semi-joins-hold-with-requires-2 c κs =
+    let s = c .before .before .before .before in
+    (s .pre .0, s .pre .1, s .pre .2, s .pre .3, s .pre .4, proper _ (s .pre .0 .proper) .row-limit)
 
-add-x : tie.Need-add-x Inv-loop μ-loop
-add-x c = omega (arith, few-semi-joins (few-predicates (c .before .before .before .before .before .before .before .pre .0)))
-
-loop-less : tie.Need-loop-less Inv-loop μ-loop
-loop-less c = search needs
-
-loop-again : tie.Need-loop-again Inv-loop μ-loop
-loop-again c =
-    let e = c .before .before .before .semi-join-end .ensures in
-    let l = c .before .before .before .before .before in
-    let s = l .before .before in
-    let turn = c .before .before .before .before .loop-test .taken in
-    (omega arith, joined-more _ _ _ _ (s .pre .0) (s .pre .4) (l .loop .inv .1) turn e (c .before .next .given .1))
-
-returns-2 : tie.Need-returns-2 Inv-loop μ-loop
-returns-2 c =
-    let l = c .before in
-    let s = l .before .before in
-    joined-all _ _ _ _ (s .pre .0) (s .pre .4) (l .loop .inv .1) (omega arith)
+returns-2 : tie.Need-returns-2
+returns-2 c = search needs
 
 pub semi-joins-hold-spec : {M : Type 1} → statement M
 semi-joins-hold-spec =
     tie.close
     (tie.spec
-    Inv-loop
-    μ-loop
-    mul-x-end
-    mul-x-end-2
-    loop-holds
-    semi-join-end-requires
-    enum-known-next
-    enum-told
+    rows-start-requires
+    mul-if1
+    add-if1
+    slice-aggregate-semi-joins-hold-with
+    semi-joins-hold-with-requires
     returns
-    add-x
-    loop-less
-    loop-again
+    slice-aggregate-semi-joins-hold-with-2
+    semi-joins-hold-with-requires-2
     returns-2)

@@ -1,0 +1,50 @@
+-- Tables whose rows can be searched by either column: by the subjects, which ascend, and by the objects, of which a copy ascends.
+use Prim.Native.Nat.{ℕ, zero, suc, _+_, _-_, _*_, _/_, _≤_, _<_}
+use mathlib.Core.Path.{_≡_}
+use mathlib.Core.Bool.{Bool, _||_}
+use mathlib.Core.List.{List}
+use lib.ListN.{length, getD, drop}
+use lib.Dec.{eqb, ltb}
+use Rattle.model.specs.Lists.{any, keep}
+use Rattle.model.specs.Site.{Row}
+use Rattle.model.specs.Tables.{at, object}
+use Rattle.model.specs.Store.{rowsStart, rowsIn}
+use Rattle.tables.specs.Columns.{columnOf}
+use Rattle.rows.specs.Search.{Ascending, hasWord}
+
+module _ (words objects : List ℕ) (first : ℕ) where
+  -- where the objects of the rows at `start` stand in the copy, which has a word for each row behind `first`
+  abbrev pub copyAt : ℕ → ℕ
+  copyAt start = (start - first) / 2
+
+  pub record Searchable (start n : ℕ) : Type 0 where
+    pub behind : first ≤ start
+    pub inside : start + 2 * n ≤ length words
+    pub copied : copyAt start + n ≤ length objects
+    pub subjects-ascend : Ascending words start 2 n
+    pub objects-ascend : Ascending objects (copyAt start) 1 n
+    pub same-objects : (x : ℕ) → hasWord objects (copyAt start) 1 n x ≡ any (λ r. eqb x (at object r)) (rowsIn n (drop start words))
+
+  -- the i-th value of a column in ascending order: column 0 is the subject, 1 the object
+  abbrev pub valueAt : ℕ → ℕ → ℕ → ℕ
+  valueAt start zero i = getD words (start + 2 * i) 0
+  valueAt start (suc c) i = getD objects (copyAt start + i) 0
+
+  -- a column has no values, or all values of the one are below all of the other
+  unfoldable pub areApart : ℕ → ℕ → ℕ → ℕ → ℕ → ℕ → Bool
+  areApart p m own q n other =
+      eqb m 0 || (eqb n 0 || (ltb (valueAt p own (m - 1)) (valueAt q other 0) || ltb (valueAt q other (n - 1)) (valueAt p own 0)))
+
+-- the rows whose value at a column is one of n ascending words
+unfoldable pub rowsWith : List ℕ → ℕ → ℕ → ℕ → ℕ → List Row → List Row
+rowsWith words base stride n column rows = keep (λ r. hasWord words base stride n (at (columnOf column) r)) rows
+
+-- each of the first k tables of an image of `count` predicates can be
+abbrev pub AllSearchable : ℕ → List ℕ → List ℕ → ℕ → Type 0
+AllSearchable count words objects k =
+    (i : ℕ) → i < k → Searchable words objects (rowsStart count) (getD words (3 + 3 * i + 2) 0) (getD words (3 + 3 * i + 1) 0)
+
+-- the first n words are the objects of the rows at `start`, in ascending order
+pub record CopyOf (words : List ℕ) (start n : ℕ) (copy : List ℕ) : Type 0 where
+  pub ascend : Ascending copy 0 1 n
+  pub same : (x : ℕ) → hasWord copy 0 1 n x ≡ any (λ r. eqb x (at object r)) (rowsIn n (drop start words))

@@ -1,0 +1,9 @@
+-- Laws that the proofs of this crate cite.
+pub mod PartialCells
+pub mod JoinFrom
+pub mod PlanJoin
+pub mod StepsHold
+pub mod FourNumbers
+pub mod StepParts
+pub mod PartSolutions
+pub mod JoinWords

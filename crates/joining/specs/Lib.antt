@@ -1,0 +1,6 @@
+-- What the functions of this crate are held to, in terms of the definitions.
+pub mod Cells
+pub mod Steps
+pub mod Visits
+pub mod Results
+pub mod StepParts

@@ -1,0 +1,6 @@
+// The join of a plan's steps as numbers: which rows are visited, what they extend, how many solutions there are, and their rows.
+pub mod cells;
+pub mod join_count;
+pub mod join_write;
+pub mod parts;
+pub mod visited;

@@ -1,0 +1,6 @@
+-- Laws that the proofs of this crate cite.
+pub mod Exchanges
+pub mod RowWords
+pub mod Sinking
+pub mod HeapSort
+pub mod WordSearch

@@ -1,0 +1,4 @@
+-- What the functions of this crate are held to.
+pub mod Rows
+pub mod Heaps
+pub mod Search
