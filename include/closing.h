@@ -19,10 +19,11 @@
  * or written through it. Lengths are counts of elements, bytes or words.
  *
  * STATE, STACK, TIME. No call keeps state or allocates: calls may run side by side on memory of their own. On x86-64 a call of
- * closing_build was measured to need 14.3 KiB of stack, closing_plan 1.8 KiB, closing_run 5.5 KiB. closing_build, and question 10,
- * which the other two both ask, compare each row with each other one a few times: at most some ten million comparisons at 1,024
- * rows. Beside that the worst time of a run is the product of the rows of its plan's tables, where fewer rows are found than fit; a
- * run that finds more stops at the first that does not fit.
+ * closing_build was measured to need 14.3 KiB of stack, closing_plan 6.0 KiB, closing_run 6.2 KiB. closing_build compares each
+ * row with each other one a few times: at most some ten million comparisons at 1,024 rows. closing_plan and closing_run search the sorted
+ * tables: about R log R steps for each pair of tables. Beside that, a run asks each part of the check that shares no variable with the
+ * rest whether it has a solution, at worst in the product of the rows of that part's tables, and then counts, up to one row more than
+ * fit.
  */
 #ifndef CLOSING_H
 #define CLOSING_H
