@@ -1,7 +1,8 @@
-/* Times each call of the archive beside the same algorithm in plain C and beside SQLite, on the sites and checks of shops.c. Prints a
+/* Times each call of the archive beside plain C, three ways, and beside SQLite, on the sites and checks of shops.c. Prints a
  * line for each call, site and check, its columns apart by tabs:
- *   call, site, rows of the site, check, triple patterns, rows of the answer (-1 for none by refusal 21), then for each engine the
- *   median and the two quartiles in nanoseconds; 0 where an engine has no such call.
+ *   call, site, rows of the site, check, triple patterns, rows of the answer (-1 for none by refusal 21), then for each engine (ours, plain C
+ *   by search, by scan and at its best, SQLite, SQLite with its check) the median and the two quartiles in nanoseconds; 0 where an engine has
+ *   no such call.
  * `measure --inputs` prints the sites and the checks in hexadecimal and times nothing.
  * All engines run in one process; their repeats are interleaved, so that what slows the machine slows them alike. */
 #define _POSIX_C_SOURCE 199309L
@@ -16,7 +17,7 @@
 #include <string.h>
 #include <time.h>
 
-enum { SAMPLES = 21, ENGINES = 4, STORE_WORDS = CLOSING_STORE_WORDS, ROW_WORDS = 1 << 20 };
+enum { SAMPLES = 21, ENGINES = 6, STORE_WORDS = CLOSING_STORE_WORDS, ROW_WORDS = 1 << 20 };
 
 static struct workload workload;
 static uint32_t store[STORE_WORDS], rows[ROW_WORDS];
@@ -35,8 +36,17 @@ static void engine_build(void) {
     closing_build(1000, workload.site.byte, workload.site.size, store, STORE_WORDS, answer);
 }
 
+/* The three ways of plain.c; a build is the same in each. */
+#define TIMED(way)                                                                                   \
+    static void way##_plans(void) { way##_plan(store, used, check->byte, check->size, plan, answer); } \
+    static void way##_runs(void) { way##_run(store, used, check->byte, check->size, plan, plan_bytes, rows, ROW_WORDS, answer); }
+
+TIMED(search)
+TIMED(scan)
+TIMED(best)
+
 static void c_build(void) {
-    plain_build(1000, workload.site.byte, workload.site.size, store, STORE_WORDS, answer);
+    search_build(1000, workload.site.byte, workload.site.size, store, STORE_WORDS, answer);
 }
 
 static void peer_build(void) {
@@ -47,16 +57,8 @@ static void engine_plan(void) {
     closing_plan(store, used, check->byte, check->size, plan, answer);
 }
 
-static void c_plan(void) {
-    plain_plan(store, used, check->byte, check->size, plan, answer);
-}
-
 static void engine_run(void) {
     closing_run(store, used, check->byte, check->size, plan, plan_bytes, rows, ROW_WORDS, answer);
-}
-
-static void c_run(void) {
-    plain_run(store, used, check->byte, check->size, plan, plan_bytes, rows, ROW_WORDS, answer);
 }
 
 static void peer_ask(void) {
@@ -140,14 +142,14 @@ static void measure_check(void) {
     peer_prepare(peer, check->byte, check->size);
     long found = rows_found();
     print_line("plan", found);
-    time_calls((call *const[]){engine_plan, c_plan, NULL, NULL});
+    time_calls((call *const[]){engine_plan, search_plans, scan_plans, best_plans, NULL, NULL});
     print_line("run", found);
-    time_calls((call *const[]){engine_run, c_run, peer_ask, peer_ask_checked});
+    time_calls((call *const[]){engine_run, search_runs, scan_runs, best_runs, peer_ask, peer_ask_checked});
     for (size_t n = 0; n < plan_bytes; n += 2)
         plan[n + 1] = 0;
     if (memcmp(plan, own, sizeof own) != 0) {
         print_line("run, VP alone", rows_found());
-        time_calls((call *const[]){engine_run, c_run, NULL, NULL});
+        time_calls((call *const[]){engine_run, search_runs, scan_runs, best_runs, NULL, NULL});
     }
 }
 
@@ -176,7 +178,7 @@ int main(int argc, char **argv) {
         engine_build();
         used = (size_t)answer[1];
         print_line("build", (long)used);
-        time_calls((call *const[]){engine_build, c_build, peer_build, NULL});
+        time_calls((call *const[]){engine_build, c_build, NULL, NULL, peer_build, NULL});
         peer = peer_load(workload.site.byte, workload.site.size);
         for (size_t c = 0; c < workload.checks; c++) {
             check = &workload.check[c];

@@ -1,4 +1,5 @@
-/* plain.h - the engine's algorithm in plain C, to compare its speed with: the calls of closing.h under other names, nothing proved.
+/* plain.h - the engine's calls in plain C, three ways (plain.c says which), to compare its speed with: the calls of closing.h under other
+ * names, nothing proved.
  *
  * Inputs, answers, refusals and lent memory are those of closing.h, word for word. */
 #ifndef PLAIN_H
@@ -7,12 +8,15 @@
 #include <stddef.h>
 #include <stdint.h>
 
-uint32_t plain_build(uint32_t t, const uint8_t *site, size_t site_bytes, uint32_t *store, size_t store_words, uint64_t answer[4]);
+#define PLAIN_CALLS(way)                                                                                                                  \
+    uint32_t way##_build(uint32_t t, const uint8_t *site, size_t site_bytes, uint32_t *store, size_t store_words, uint64_t answer[4]);     \
+    uint32_t way##_plan(const uint32_t *store, size_t store_words, const uint8_t *pattern, size_t pattern_bytes, uint8_t plan[16],         \
+                        uint64_t answer[4]);                                                                                               \
+    uint32_t way##_run(const uint32_t *store, size_t store_words, const uint8_t *pattern, size_t pattern_bytes, const uint8_t *plan,       \
+                       size_t plan_bytes, uint32_t *rows, size_t row_words, uint64_t answer[4]);
 
-uint32_t plain_plan(const uint32_t *store, size_t store_words, const uint8_t *pattern, size_t pattern_bytes, uint8_t plan[16],
-                    uint64_t answer[4]);
-
-uint32_t plain_run(const uint32_t *store, size_t store_words, const uint8_t *pattern, size_t pattern_bytes, const uint8_t *plan,
-                   size_t plan_bytes, uint32_t *rows, size_t row_words, uint64_t answer[4]);
+PLAIN_CALLS(scan)
+PLAIN_CALLS(search)
+PLAIN_CALLS(best)
 
 #endif

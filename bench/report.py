@@ -11,7 +11,7 @@ sys.path.insert(0, os.path.join(HERE, '..', 'tools'))
 
 from reference import KINDS, layout, plan, read_pattern, read_site
 
-ENGINE, PLAIN, QUERY, CHECKED = range(4)
+ENGINE, PLAIN, BEFORE, BEST, QUERY, CHECKED = range(6)
 
 
 def lines(folder, name):
@@ -25,7 +25,7 @@ class Line:
     def __init__(self, text):
         self.call, self.site, rows, self.check, count, found, *times = text.split('\t')
         self.rows, self.count, self.found = int(rows), int(count), int(found)
-        self.times = [tuple(float(x) for x in times[3 * e:3 * e + 3]) for e in range(4)]
+        self.times = [tuple(float(x) for x in times[3 * e:3 * e + 3]) for e in range(6)]
 
     def median(self, engine):
         return self.times[engine][0]
@@ -154,10 +154,15 @@ def build_table(measured, sites):
     return table(('site', 'words', 'comparisons of one pass', 'by search', 'engine', 'plain C', 'engine / C', 'SQLite load', 'engine / load'), rows)
 
 
+def faster(line):
+    """How many times faster than before the search, as plain C goes."""
+    return cell(line.median(BEFORE) / line.median(ENGINE), '%.1f')
+
+
 def plan_table(measured):
-    rows = [(line.site, line.check, timed(line, ENGINE), timed(line, PLAIN), cell(line.ratio(PLAIN)))
-            for line in measured if line.call == 'plan']
-    return table(('site', 'check', 'engine', 'plain C', 'engine / C'), rows)
+    rows = [(line.site, line.check, timed(line, ENGINE), timed(line, PLAIN), cell(line.ratio(PLAIN)), timed(line, BEST), cell(line.ratio(BEST)),
+             timed(line, BEFORE), faster(line)) for line in measured if line.call == 'plan']
+    return table(('site', 'check', 'engine', 'plain C', 'engine / C', 'best C', 'engine / best', 'before', 'times faster'), rows)
 
 
 def run_table(measured, sites):
@@ -168,9 +173,10 @@ def run_table(measured, sites):
         # none by the counts is answered before a row is read
         read, searched = (0, 0) if line.check == 'none by the counts' else rows_read(site, check, plan(layout(1000, site), check))
         rows.append((line.site, line.check, line.count, found_text(line.found), '{:,}'.format(read), '{:,}'.format(searched), timed(line, ENGINE),
-                     timed(line, PLAIN), cell(line.ratio(PLAIN)), timed(line, QUERY), cell(line.ratio(QUERY)),
-                     timed(line, CHECKED), cell(line.ratio(CHECKED), '%.3f')))
-    head = ('site', 'check', 'N', 'rows', 'rows read', 'by search', 'engine', 'plain C', 'engine / C', 'SQLite', 'engine / SQLite', 'with quick_check', 'engine / that')
+                     timed(line, PLAIN), cell(line.ratio(PLAIN)), timed(line, BEST), cell(line.ratio(BEST)), timed(line, BEFORE), faster(line),
+                     timed(line, QUERY), cell(line.ratio(QUERY)), timed(line, CHECKED), cell(line.ratio(CHECKED), '%.3f')))
+    head = ('site', 'check', 'N', 'rows', 'rows of the tables', 'rows read', 'engine', 'plain C', 'engine / C', 'best C', 'engine / best', 'before', 'times faster',
+            'SQLite', 'engine / SQLite', 'with quick_check', 'engine / that')
     return table(head, rows)
 
 
@@ -186,8 +192,13 @@ def growth_table(measured):
     rows = []
     for call, check in GROWTH:
         points = shops(measured, call, check)
-        rows.append((call, check) + tuple(cell(exponent([(n, line.median(engine)) for n, line in points])) for engine in (ENGINE, PLAIN)))
-    return table(('call', 'check', 'engine', 'plain C'), rows)
+        rows.append((call, check) + tuple(cell(exponent([(n, line.median(engine)) for n, line in points])) if points[0][1].median(engine) else '' for engine in (ENGINE, PLAIN, BEST, BEFORE)))
+    return table(('call', 'check', 'engine', 'plain C', 'best C', 'before'), rows)
+
+
+def bounds(what, ratios):
+    ratios = sorted(x for x in ratios if x)
+    return '%s: from %.2f to %.2f, the middle one %.2f.' % (what, ratios[0], ratios[-1], ratios[len(ratios) // 2])
 
 
 def results(folder):
@@ -195,11 +206,14 @@ def results(folder):
     sites = inputs(folder)
     small = dict(line.split() for line in lines(folder, 'stack.txt')), dict(line.split() for line in lines(folder, 'instructions.txt'))
     code = lines(folder, 'size.txt')[-1].split()
-    worst = max(line.spread(engine) for line in measured for engine in range(4))
-    slower = sorted({line.ratio(PLAIN) for line in measured if line.ratio(PLAIN)})
+    worst = max(line.spread(engine) for line in measured for engine in range(6))
     text = ['# What a closing check costs', '', 'Written by `bench/run`; medians of 21 interleaved repeats in one process, on %s. Compare ratios of' % platform.machine(),
             'one run, not times of two. The widest distance between quartiles was %.0f %% of a median.' % (100 * worst), '',
-            'Engine over plain C: from %.2f to %.2f, the middle one %.2f.' % (slower[0], slower[-1], slower[len(slower) // 2]), '',
+            'Plain C is the same algorithm; best C the fastest that we could write for the same calls; before is the algorithm until question 10 and the join',
+            'were made by search, in plain C, with which the engine of then was level.', '',
+            bounds('Engine over plain C', [line.ratio(PLAIN) for line in measured]), '',
+            bounds('Engine over best C, plan and run', [line.ratio(BEST) for line in measured if line.call != 'build']), '',
+            bounds('Run over SQLite with quick_check', [line.ratio(CHECKED) for line in measured if line.call == 'run']), '',
             '![time of a run by rows of the site](plot.svg)', '', '## Build', '']
     text += build_table(measured, sites) + ['', '## Plan', ''] + plan_table(measured) + ['', '## Run', ''] + run_table(measured, sites)
     text += ['', '## Reduced tables', ''] + reduced_table(measured) + ['', '## How cost grows with rows', '', 'The exponent of time in rows, over shops of 16 to 1,024 rows.', '']
@@ -217,7 +231,8 @@ def results(folder):
 def plot(measured):
     call, check = 'run', 'path: sensors of open doors'
     points = shops(measured, call, check)
-    series = [('engine', ENGINE, '#1b6ca8'), ('plain C', PLAIN, '#2a9d5c'), ('SQLite', QUERY, '#c46210'), ('SQLite with quick_check', CHECKED, '#8a2d3b')]
+    series = [('engine', ENGINE, '#1b6ca8'), ('best C', BEST, '#2a9d5c'), ('before', BEFORE, '#777777'), ('SQLite', QUERY, '#c46210'),
+              ('SQLite with quick_check', CHECKED, '#8a2d3b')]
     values = [line.median(e) for _, line in points for _, e, _ in series]
     low, high = math.floor(math.log10(min(values))), math.ceil(math.log10(max(values)))
 
