@@ -23,7 +23,8 @@
  * row with each other one a few times: at most some ten million comparisons at 1,024 rows. closing_plan and closing_run search the sorted
  * tables: about R log R steps for each pair of tables. Beside that, a run asks each part of the check that shares no variable with the
  * rest whether it has a solution, at worst in the product of the rows of that part's tables, and then counts, up to one row more than
- * fit.
+ * fit. A plan of closing_plan takes the triple patterns of a part one after the other, so that counting is about as quick as asking.
+ * A plan given by somebody else that takes parts in turns is run as it stands, and may cost the product of the rows of their tables.
  */
 #ifndef CLOSING_H
 #define CLOSING_H
