@@ -30,7 +30,7 @@ word-range words base stride n x ascending e = (
 )
 
 -- what rows have in a column is between its lowest value and its highest
-column-range : {words objects : List ℕ} {first start n : ℕ} → Searchable words objects first start n → (column x : ℕ) → column < 2
+pub column-range : {words objects : List ℕ} {first start n : ℕ} → Searchable words objects first start n → (column x : ℕ) → column < 2
     → any (λ r. eqb x (at (columnOf column) r)) (rowsIn n (drop start words)) ≡ true
     → (valueAt words objects first start column 0 ≤ x) × (x ≤ valueAt words objects first start column (n - 1))
 column-range {words} {start = start} {n} s zero x h e =
@@ -49,6 +49,13 @@ shared : {low high other-low other-high x : ℕ} (m n : ℕ) → 0 < m → 0 < n
     → (eqb m 0 || (eqb n 0 || (ltb high other-low || ltb other-high low))) ≡ false
 shared {low} {high} {other-low} {other-high} m n some some-other range other-range =
     rw (ne-eqb m 0 (λ e. omega arith), ne-eqb n 0 (λ e. omega arith), le-ltb high other-low (omega arith), le-ltb other-high low (omega arith)) refl
+
+-- columns that are not apart have values
+pub not-apart : (words objects : List ℕ) (first p m own q n other : ℕ) → areApart words objects first p m own q n other ≡ false → (0 < m) × (0 < n)
+unfolding areApart
+not-apart words objects first p zero own q n other e = absurd (false≢true (sym e))
+not-apart words objects first p (suc m) own q zero other e = absurd (false≢true (sym (rw (ne-eqb (suc m) 0 (λ z. omega arith)) at e)))
+not-apart words objects first p (suc m) own q (suc n) other e = (omega arith, omega arith)
 
 module _ {words objects : List ℕ} {first p m q n : ℕ} (s : Searchable words objects first p m) (t : Searchable words objects first q n)
     {own other : ℕ} (own-column : own < 2) (other-column : other < 2) (apart : areApart words objects first p m own q n other ≡ true) where

@@ -2,11 +2,13 @@
 pub mod Comparing
 pub mod Partnered
 pub mod Apart
+pub mod Gapless
 pub mod SortedObjects
 pub mod SearchableTables
 pub mod Declared
 pub mod Tables
 pub mod Join
 pub mod Joined
+pub mod Turns
 pub mod Decoding
 pub mod Lookups

@@ -1,5 +1,6 @@
 // Question 10: whether words are what some site and some T give; and look-ups in words that are.
 pub mod entries;
+pub mod gaps;
 pub mod lookup;
 pub mod objects;
 pub mod partners;

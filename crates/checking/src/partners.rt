@@ -7,7 +7,7 @@ ghost use Rattle.model.specs.Tables.{at, semiJoin};
 ghost use Rattle.model.specs.Store.{rowsIn, tableWords};
 ghost use Rattle.tables.specs.Columns.{columnOf, kindOfColumns};
 ghost use Rattle.rows.specs.Search.{Ascending};
-ghost use Rattle.checking.specs.Searching.{Searchable, rowsWith, valueAt, areApart};
+ghost use Rattle.checking.specs.Searching.{Searchable, rowsWith, valueAt, areApart, isBetween, columnGapless};
 use rows::search::has_word;
 
 // Whether some of the n rows at `start` has a value at a column: by search in the rows where it is the subject, else in their objects'
@@ -80,6 +80,28 @@ fn columns_apart(
     partner_highest < lowest
 }
 
+// Whether the values of column `own` of the m rows at p are all between the lowest and the highest of column `other` of the n rows at q.
+fn column_between(
+    w: &[u32],
+    objects: &[u32],
+    first: usize,
+    p: usize,
+    m: usize,
+    own: usize,
+    q: usize,
+    n: usize,
+    other: usize,
+) -> bool
+    requires { ⌜ Searchable (now w) (now objects) first p m × Searchable (now w) (now objects) first q n × (own < 2) × (other < 2) × (0 < m) × (0 < n) ⌝ }
+    ensures { λ r. ⌜ r ≡ isBetween (now (w .entry)) (now (objects .entry)) first p m own q n other ⌝ }
+{
+    let lowest = value_at(w, objects, first, p, m, own, 0);
+    let highest = value_at(w, objects, first, p, m, own, m - 1);
+    let partner_lowest = value_at(w, objects, first, q, n, other, 0);
+    let partner_highest = value_at(w, objects, first, q, n, other, n - 1);
+    partner_lowest <= lowest && highest <= partner_highest
+}
+
 // How many of the m rows at p have, in column `own`, a value that one of n ascending words has.
 fn count_words(
     w: &[u32],
@@ -104,8 +126,8 @@ fn count_words(
     kept
 }
 
-// How many of the m rows at p have, in column `own`, a value that one of the n rows at q has in column `other`. Which words are searched is
-// decided once, before the rows.
+// How many of the m rows at p have, in column `own`, a value that one of the n rows at q has in column `other`; all of them, where that
+// column has no gaps and the values are between its lowest and its highest. Which words are searched is decided once, before the rows.
 pub fn count_partnered(
     w: &[u32],
     objects: &[u32],
@@ -116,12 +138,17 @@ pub fn count_partnered(
     q: usize,
     n: usize,
     other: usize,
+    gapless: bool,
 ) -> usize
     requires { ⌜ Searchable (now w) (now objects) first p m × Searchable (now w) (now objects) first q n × (own < 2) × (other < 2) ⌝ }
+    requires { ⌜ gapless ≡ columnGapless (now w) (now objects) first q n other ⌝ }
     ensures { λ r. ⌜ r ≡ length (semiJoin (kindOfColumns own other) (rowsIn m (drop p (now (w .entry)))) (rowsIn n (drop q (now (w .entry))))) ⌝ }
 {
     if columns_apart(w, objects, first, p, m, own, q, n, other) {
         return 0;
+    }
+    if gapless && column_between(w, objects, first, p, m, own, q, n, other) {
+        return m;
     }
     if other == 0 {
         return count_words(w, p, m, own, w, q, 2, n);

@@ -5,36 +5,40 @@ ghost use lib.ListN.{length};
 ghost use Rattle.model.specs.Site.{rowTotal};
 ghost use Rattle.model.specs.Tables.{kindCount, mostThreshold};
 ghost use Rattle.model.specs.Store.{kept, rowsStart, storedStart};
-ghost use Rattle.tables.specs.SiteWords.{siteIn, ImageOf, reducedAt};
-ghost use Rattle.checking.specs.Searching.{AllSearchable};
+ghost use Rattle.tables.specs.SiteWords.{siteIn, ImageOf, reducedAt, semiJoinPlace};
+ghost use Rattle.checking.specs.Searching.{AllSearchable, GapsMarked};
 ghost use Rattle.checking.specs.Joins.{joinHolds, joinsHold};
 ghost use Rattle.checking.specs.declared.entries.Place.the-variants.{At, Wrong};
 use crate::entries::Place;
+use crate::gaps::mark_gapless;
 use crate::objects::copy_objects;
 use crate::partners::compare_partnered;
 use crate::partners::count_partnered;
 use tables::kinds::KINDS;
 use tables::kinds::is_stored;
-use tables::operands::operands_at;
+use tables::operands::operands_of;
 use tables::operands::rows_start;
 
-// Where the stored rows of the x-th semi-join end, if they and its entry are as they should be and the rows begin at `here`.
+// Where the stored rows of the semi-join of kind k of p against q end, if they and its entry are as they should be and the rows begin at `here`.
 pub fn semi_join_end(
     t: usize,
     w: &[u32],
     objects: &[u32],
+    marks: &[bool; 32],
     first: usize,
     count: usize,
-    x: usize,
+    p: usize,
+    q: usize,
+    k: usize,
     here: usize,
     used: usize,
 ) -> Place
-    requires { ⌜ ImageOf count (now w) × (x < count * (count * kindCount)) × (t ≤ mostThreshold) × (here ≤ used) × (used ≤ length (now w)) ⌝ }
-    requires { ⌜ AllSearchable count (now w) (now objects) count × (first ≡ rowsStart count) ⌝ }
-    ensures { λ r. ⌜ r ≡ cond (joinHolds t (now (w .entry)) (reducedAt (siteIn count (now (w .entry))) x) (3 + 3 * count + 2 * x) here used) (At (here + 2 * length (kept t (reducedAt (siteIn count (now (w .entry))) x)))) Wrong ⌝ }
+    requires { ⌜ ImageOf count (now w) × (p < count) × (q < count) × (k < kindCount) × (t ≤ mostThreshold) × (here ≤ used) × (used ≤ length (now w)) ⌝ }
+    requires { ⌜ AllSearchable count (now w) (now objects) count × GapsMarked count (now w) (now objects) (now marks) count × (first ≡ rowsStart count) ⌝ }
+    ensures { λ r. ⌜ r ≡ cond (joinHolds t (now (w .entry)) (reducedAt (siteIn count (now (w .entry))) (semiJoinPlace count p q k)) (3 + 3 * count + 2 * semiJoinPlace count p q k) here used) (At (here + 2 * length (kept t (reducedAt (siteIn count (now (w .entry))) (semiJoinPlace count p q k))))) Wrong ⌝ }
 {
-    let o = operands_at(w, count, x);
-    let entry = 3 + 3 * count + 2 * x;
+    let o = operands_of(w, count, p, q, k);
+    let entry = o.entry;
     let left = w[entry] as usize;
     let start = w[entry + 1] as usize;
     let rows = o.rows;
@@ -62,6 +66,8 @@ pub fn semi_join_end(
         }
         return Place::Wrong;
     }
+    let other = o.other;
+    let gapless = marks[2 * q + other];
     if start != 0
         || count_partnered(
             w,
@@ -72,7 +78,8 @@ pub fn semi_join_end(
             o.own,
             o.against,
             o.partners,
-            o.other,
+            other,
+            gapless,
         )
             != left
     {
@@ -96,12 +103,28 @@ fn semi_joins_hold_with(
 {
     copy_objects(w, count, objects);
     let rows = rows_start(count);
+    let mut marks = [false; 32];
+    mark_gapless(w, objects, rows, count, &mut marks);
     let mut here = first;
-    for x in 0..count * (count * KINDS) {
-        let Place::At(next) = semi_join_end(t, w, objects, rows, count, x, here, used) else {
+    let mut p: usize = 0;
+    let mut q: usize = 0;
+    let mut k: usize = 0;
+    while p < count {
+        let Place::At(next) = semi_join_end(t, w, objects, &marks, rows, count, p, q, k, here, used)
+        else {
             return false;
         };
         here = next;
+        // For each p, each q, each k.
+        k += 1;
+        if k == KINDS {
+            k = 0;
+            q += 1;
+        }
+        if q == count {
+            q = 0;
+            p += 1;
+        }
     }
     here == used
 }

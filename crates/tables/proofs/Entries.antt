@@ -1,6 +1,6 @@
 -- The semi-joins of an image: the tables and the kind of each, and how many rows it leaves.
 use Prim.Native.Nat.{ℕ, zero, suc, _+_, _*_, _/_, _%_, _≤_, _<_}
-use native.Mathlib.Nat.{mod-lt, div-add-mod', div-lt-iff-lt-mul}
+use native.Mathlib.Nat.{mul-le-mul-right, mod-lt, div-add-mod', div-lt-iff-lt-mul}
 use native.Mathlib.Omega.{arith}
 use mathlib.Core.Path.{_≡_, refl, sym, ap, _∙_}
 use mathlib.Core.List.{List, [], _∷_}
@@ -13,7 +13,7 @@ use Rattle.model.proofs.Blocks.{head-block}
 use Rattle.model.proofs.StoreLayout.{leftAt, semi-join-block}
 use Rattle.model.proofs.Membership.{keep-fewer}
 use Rattle.tables.specs.Columns.{columnOf}
-use Rattle.tables.specs.SiteWords.{siteIn, ImageOf, noReduced, reducedAt, OperandsOf}
+use Rattle.tables.specs.SiteWords.{siteIn, ImageOf, noReduced, reducedAt, semiJoinPlace, OperandsOf}
 use Rattle.tables.proofs.Images.{table-in}
 
 -- ---- the tables and the kind
@@ -35,13 +35,19 @@ own-below {count} h = div-lt-iff-lt-mul (some-predicate count h) .1 (omega arith
 pub partner-below : {count x : ℕ} → x < count * (count * kindCount) → partnerOf count x < count
 partner-below {count} {x} h = mod-lt (x / kindCount) (some-predicate count h)
 
+pub place-below : {count : ℕ} (p q k : ℕ) → p < count → q < count → k < kindCount → semiJoinPlace count p q k < count * (count * kindCount)
+place-below {count} p q k h l m = let square : suc p * count ≤ count * count = mul-le-mul-right count h in omega arith
+
+-- the place is that of its own tables and kind
+pub place-again : (count x : ℕ) → semiJoinPlace count (ownOf count x) (partnerOf count x) (x % kindCount) ≡ x
+place-again count x = rw (div-add-mod' (x / kindCount) count) (div-add-mod' x kindCount)
+
 reduced-at : (site : Site) (x : ℕ) → x < length site * (length site * kindCount)
     → reducedAt site x
     ≡ record { full = tableAt site (ownOf (length site) x) .rows; rows = leftAt site (ownOf (length site) x) (partnerOf (length site) x) (x % kindCount) }
 reduced-at site x h =
     let p = length site in
-    let back : (ownOf p x * p + partnerOf p x) * kindCount + x % kindCount ≡ x = rw (div-add-mod' (x / kindCount) p) (div-add-mod' x kindCount) in
-    rw back at (head-block (semi-join-block site (ownOf p x) (partnerOf p x) (x % kindCount) (own-below h) (partner-below h) (omega arith)) noReduced)
+    rw (place-again p x) at (head-block (semi-join-block site (ownOf p x) (partnerOf p x) (x % kindCount) (own-below h) (partner-below h) (omega arith)) noReduced)
 
 -- ---- how many rows
 
@@ -62,36 +68,42 @@ counted-kept c t = rw (c .left, c .full) refl
 
 -- ---- of an image
 
+-- what the entries of the tables say is what the semi-join is of
+pub operands-of : {count : ℕ} {image : List ℕ} → ImageOf count image → (p q k own other : ℕ) → p < count → q < count → k < kindCount
+    → (own < 2) × (columnOf own ≡ kindAt k .0) → (other < 2) × (columnOf other ≡ kindAt k .1)
+    → OperandsOf (siteIn count image) image (semiJoinPlace count p q k) (record {
+      entry = 3 + 3 * count + 2 * semiJoinPlace count p q k;
+      start = getD image (3 + 3 * p + 2) 0;
+      rows = getD image (3 + 3 * p + 1) 0;
+      own = own;
+      against = getD image (3 + 3 * q + 2) 0;
+      partners = getD image (3 + 3 * q + 1) 0;
+      other = other;
+    })
+operands-of {count} {image} o p q k own other h l m ownColumn otherColumn =
+    let site = siteIn count image in
+    let table = table-in o p h in
+    let partner = table-in o q l in
+    let among : p < length site = rw (o .predicates) h in
+    let partner-among : q < length site = rw (o .predicates) l in
+    let reduced : reducedAt site (semiJoinPlace count p q k) ≡ record { full = tableAt site p .rows; rows = leftAt site p q k } =
+    rw (o .predicates) at (head-block (semi-join-block site p q k among partner-among m) noReduced) in
+    record {
+      entry-place = rw (o .predicates) refl;
+      inside = table .inside;
+      partner-inside = partner .inside;
+      own-column = ownColumn .0;
+      partner-column = otherColumn .0;
+      full = table .count ∙ sym (ap (λ (r : Reduced). length (r .full)) reduced);
+      left = rw (table .back, partner .back, ownColumn .1, otherColumn .1) (sym (ap (λ (r : Reduced). r .rows) reduced));
+    }
+
 module _ {count : ℕ} {image : List ℕ} (o : ImageOf count image) (x : ℕ) (h : x < count * (count * kindCount)) where
   abbrev site : Site
   site = siteIn count image
 
   reduced-of : reducedAt site x ≡ record { full = tableAt site (ownOf count x) .rows; rows = leftAt site (ownOf count x) (partnerOf count x) (x % kindCount) }
   reduced-of = rw (o .predicates) at (reduced-at site x (rw (o .predicates) h))
-
-  -- what the entries of the tables say is what the semi-join is of
-  pub operands-of : (own other : ℕ) → (own < 2) × (columnOf own ≡ kindAt (x % kindCount) .0) → (other < 2) × (columnOf other ≡ kindAt (x % kindCount) .1)
-      → OperandsOf site image x (record {
-        start = getD image (3 + 3 * ownOf count x + 2) 0;
-        rows = getD image (3 + 3 * ownOf count x + 1) 0;
-        own = own;
-        against = getD image (3 + 3 * partnerOf count x + 2) 0;
-        partners = getD image (3 + 3 * partnerOf count x + 1) 0;
-        other = other;
-      })
-  operands-of own other ownColumn otherColumn =
-      let table = table-in o (ownOf count x) (own-below h) in
-      let partner = table-in o (partnerOf count x) (partner-below h) in
-      record {
-        inside = table .inside;
-        partner-inside = partner .inside;
-        own-column = ownColumn .0;
-        partner-column = otherColumn .0;
-        full = table .count ∙ sym (ap (λ (r : Reduced). length (r .full)) reduced-of);
-        own-table = (ownOf count x, rw (o .predicates) (own-below h), refl, refl);
-        partner-table = (partnerOf count x, rw (o .predicates) (partner-below h), refl, refl);
-        left = rw (table .back, partner .back, ownColumn .1, otherColumn .1) (sym (ap (λ (r : Reduced). r .rows) reduced-of));
-      }
 
   full-few : length (reducedAt site x .full) ≤ mostRows
   full-few = rw reduced-of (omega (arith, table-fewer site (ownOf count x), proper site (o .proper) .row-limit))

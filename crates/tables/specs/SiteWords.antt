@@ -58,17 +58,27 @@ noReduced = record { full = []; rows = [] }
 abbrev pub reducedAt : Site → ℕ → Reduced
 reducedAt site x = getD (semiJoins site) x noReduced
 
+-- the place of the semi-join of kind k of predicate p against predicate q, among those of `count` predicates
+abbrev pub semiJoinPlace : ℕ → ℕ → ℕ → ℕ → ℕ
+semiJoinPlace count p q k = (p * count + q) * kindCount + k
+
 -- the operands of the x-th semi-join: their tables stand in the image, and give what the semi-join leaves
 pub record OperandsOf (site : Site) (image : List ℕ) (x : ℕ) (r : Operands) : Type 0 where
+  pub entry-place : r .entry ≡ 3 + 3 * length site + 2 * x
   pub inside : r .start + 2 * r .rows ≤ length image
   pub partner-inside : r .against + 2 * r .partners ≤ length image
   pub own-column : r .own < 2
   pub partner-column : r .other < 2
   pub full : r .rows ≡ length (reducedAt site x .full)
-  pub own-table : (i : ℕ) × (i < length site) × (r .rows ≡ getD image (3 + 3 * i + 1) 0) × (r .start ≡ getD image (3 + 3 * i + 2) 0)
-  pub partner-table : (i : ℕ) × (i < length site) × (r .partners ≡ getD image (3 + 3 * i + 1) 0) × (r .against ≡ getD image (3 + 3 * i + 2) 0)
   pub left : semiJoin (kindOfColumns (r .own) (r .other)) (rowsIn (r .rows) (drop (r .start) image)) (rowsIn (r .partners) (drop (r .against) image))
       ≡ reducedAt site x .rows
+
+-- the operands are the tables of predicates p and q, as their entries have them
+pub record TablesOf (image : List ℕ) (p q : ℕ) (r : Operands) : Type 0 where
+  pub start : r .start ≡ getD image (3 + 3 * p + 2) 0
+  pub rows : r .rows ≡ getD image (3 + 3 * p + 1) 0
+  pub against : r .against ≡ getD image (3 + 3 * q + 2) 0
+  pub partners : r .partners ≡ getD image (3 + 3 * q + 1) 0
 
 -- the entries of an image have the row counts of the semi-joins
 pub record CountsIn (count : ℕ) (image : List ℕ) : Type 0 where

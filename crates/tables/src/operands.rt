@@ -3,7 +3,7 @@ ghost use Prim.Native.Nat.{_<_, _≤_, _*_};
 ghost use Rattle.model.specs.Site.{mostPredicates};
 ghost use Rattle.model.specs.Tables.{kindCount};
 ghost use Rattle.model.specs.Store.{rowsStart};
-ghost use Rattle.tables.specs.SiteWords.{siteIn, ImageOf, OperandsOf};
+ghost use Rattle.tables.specs.SiteWords.{siteIn, ImageOf, semiJoinPlace, OperandsOf, TablesOf};
 use crate::kinds::KINDS;
 use crate::kinds::own_column;
 use crate::kinds::partner_column;
@@ -18,6 +18,8 @@ pub fn rows_start(p: usize) -> usize
 
 // The two tables of a semi-join in an image, and the columns that are compared.
 pub struct Operands {
+    // Where the entry of the semi-join stands.
+    pub entry: usize,
     // Where the rows start, how many they are, and their column.
     pub start: usize,
     pub rows: usize,
@@ -28,22 +30,32 @@ pub struct Operands {
     pub other: usize,
 }
 
-// The x-th semi-join of an image of `count` predicates: for each p, each q, each k, in that nesting.
+// The semi-join of kind k of predicate p against predicate q, in an image of `count` predicates.
+pub fn operands_of(image: &[u32], count: usize, p: usize, q: usize, k: usize) -> Operands
+    requires { ⌜ ImageOf count (now image) × (p < count) × (q < count) × (k < kindCount) ⌝ }
+    ensures { λ r. ⌜ OperandsOf (siteIn count (now (image .entry))) (now (image .entry)) (semiJoinPlace count p q k) r ⌝ }
+    ensures { λ r. ⌜ TablesOf (now (image .entry)) p q r ⌝ }
+{
+    let row_entry = 3 + 3 * p;
+    let partner_entry = 3 + 3 * q;
+    let own = own_column(k);
+    let other = partner_column(k);
+    Operands {
+        entry: 3 + 3 * count + 2 * ((p * count + q) * KINDS + k),
+        start: image[row_entry + 2] as usize,
+        rows: image[row_entry + 1] as usize,
+        own,
+        against: image[partner_entry + 2] as usize,
+        partners: image[partner_entry + 1] as usize,
+        other,
+    }
+}
+
+// The x-th semi-join: for each p, each q, each k, in that nesting.
 pub fn operands_at(image: &[u32], count: usize, x: usize) -> Operands
     requires { ⌜ ImageOf count (now image) × (x < count * (count * kindCount)) ⌝ }
     ensures { λ r. ⌜ OperandsOf (siteIn count (now (image .entry))) (now (image .entry)) x r ⌝ }
 {
     let pair = x / KINDS;
-    let p = 3 + 3 * (pair / count);
-    let q = 3 + 3 * (pair % count);
-    let own = own_column(x % KINDS);
-    let other = partner_column(x % KINDS);
-    Operands {
-        start: image[p + 2] as usize,
-        rows: image[p + 1] as usize,
-        own,
-        against: image[q + 2] as usize,
-        partners: image[q + 1] as usize,
-        other,
-    }
+    operands_of(image, count, pair / count, pair % count, x % KINDS)
 }

@@ -3,108 +3,128 @@ use Prim.Native.Nat.{ℕ, _+_, _*_, _<_, _≤_}
 use native.Mathlib.Nat.{le-trans}
 use native.Mathlib.Omega.{arith}
 use mir.Facts.{fits-widen}
-use mathlib.Core.Path.{_≡_, refl, sym, ap, _∙_}
+use mathlib.Core.Path.{_≡_, refl, sym, ap, _∙_, subst}
+use mathlib.Core.Bool.{Bool}
 use mathlib.Core.Logic.{⊎-elim}
 use mathlib.Core.List.{List}
 use lib.ListN.{length, getD, take, drop}
 use borrow.Author.Needs.{needs}
 use borrow.Author.Tests.{ltb-false, le-ltb, eqb-true, eqb-false, not-true, not-false}
 use Rattle.model.specs.Lists.{sameWords}
-use Rattle.model.specs.Site.{mostPredicates}
-use Rattle.model.specs.Tables.{isStored}
-use Rattle.model.specs.Store.{Reduced, tableWords, rowsStart}
+use Rattle.model.specs.Tables.{isStored, kindCount}
+use Rattle.model.specs.Store.{Reduced, tableWords}
 use Rattle.model.proofs.Booleans.{not-both}
-use Rattle.tables.specs.SiteWords.{siteIn, reducedAt}
-use Rattle.checking.specs.Searching.{Searchable, AllSearchable}
-use Rattle.tables.proofs.Images.{few-predicates, few-semi-joins, mostSemiJoins, entries-inside}
-use Rattle.tables.proofs.Entries.{counted-of, left-fewer}
-use Rattle.checking.proofs.Join.{ends-wrong, stored, ends-stored, not-stored, ends-not-stored}
+use Rattle.tables.specs.SiteWords.{siteIn, reducedAt, semiJoinPlace}
+use Rattle.checking.specs.Searching.{Searchable, columnGapless}
+use Rattle.tables.proofs.Images.{few-predicates, entries-inside}
+use Rattle.tables.proofs.Entries.{place-below, counted-of, left-fewer}
+use Rattle.checking.specs.declared.entries.Place.{Place}
+use Rattle.checking.proofs.Join.{end, ends-wrong, stored, ends-stored, not-stored, ends-not-stored}
 use Rattle.checking.proofs.semi_joins.semi_join_end.Statement.{statement}
 use Rattle.checking.proofs.semi_joins.semi_join_end.Tie as tie
 
--- the counts are small, and the two words of the entry stand inside
-small : (c : tie.Start)
-    → (c .args .count ≤ mostPredicates) × (c .args .x < mostSemiJoins) × (3 + 3 * c .args .count + 2 * c .args .x + 2 ≤ length (c .args .w .now))
-small c =
-    let few = few-predicates (c .pre .0 .0) in
-    (few, omega (arith, few-semi-joins few, c .pre .0 .1), omega (arith, entries-inside (c .pre .0 .0), c .pre .0 .1))
+-- the place of the semi-join
+abbrev place : tie.Start → ℕ
+place c = semiJoinPlace (c .args .count) (c .args .p) (c .args .q) (c .args .k)
 
--- the semi-join, and the row count that its entry gives
+among : (c : tie.Start) → place c < c .args .count * (c .args .count * kindCount)
+among c = place-below (c .args .p) (c .args .q) (c .args .k) (c .pre .0 .1) (c .pre .0 .2) (c .pre .0 .3)
+
+-- the semi-join
 abbrev semiJoinOf : tie.Start → Reduced
-semiJoinOf c = reducedAt (siteIn (c .args .count) (c .args .w .now)) (c .args .x)
+semiJoinOf c = reducedAt (siteIn (c .args .count) (c .args .w .now)) (place c)
 
-abbrev countOf : tie.Start → ℕ
-countOf c = getD (c .args .w .now) (3 + 3 * c .args .count + 2 * c .args .x) 0
+-- rows that are a table's can be searched, and where a column of theirs has no gaps is marked
+moved : {words objects : List ℕ} {first at start from n rows : ℕ} → first ≡ at → start ≡ from → n ≡ rows
+    → Searchable words objects at from rows → Searchable words objects first start n
+moved a b c s = rw (a, b, c) s
+
+gapless-moved : (words objects : List ℕ) {first at start from n rows : ℕ} {mark : Bool} (column : ℕ) → first ≡ at → start ≡ from → n ≡ rows
+    → mark ≡ columnGapless words objects at from rows column → mark ≡ columnGapless words objects first start n column
+gapless-moved words objects column a b c e = rw (a, b, c) e
+
+-- what is known once the operands are
+module _ (o : tie.After-operands-of) where
+  abbrev start : tie.Start
+  start = o .before .before .before
+
+  -- where the entry stands, and the row count that it gives
+  abbrev entry : ℕ
+  entry = o .operands-of .result .entry
+
+  abbrev countOf : ℕ
+  countOf = getD (start .args .w .now) entry 0
+
+  entry-place : entry ≡ 3 + 3 * start .args .count + 2 * place start
+  entry-place = o .operands-of .ensures .0 .entry-place ∙ ap (λ (n : ℕ). 3 + 3 * n + 2 * place start) (start .pre .0 .0 .predicates)
+
+  -- its two words stand inside
+  inside : entry + 2 ≤ length (start .args .w .now)
+  inside = omega (arith, entry-place, among start, entries-inside (start .pre .0 .0))
+
+  -- what is answered by the entry there is answered by the entry of the semi-join
+  at-entry : {r : Place} → r ≡ end (start .args .t) (start .args .w .now) (semiJoinOf start) entry (start .args .here) (start .args .used)
+      → r ≡ end (start .args .t) (start .args .w .now) (semiJoinOf start) (3 + 3 * start .args .count + 2 * place start) (start .args .here) (start .args .used)
+  at-entry {r} e =
+      subst (λ (n : ℕ). r ≡ end (start .args .t) (start .args .w .now) (semiJoinOf start) n (start .args .here) (start .args .used)) entry-place e
+
+  -- the rows of both tables can be searched
+  searchable : Searchable (start .args .w .now) (start .args .objects .now) (start .args .first) (o .operands-of .result .start) (o .operands-of .result .rows)
+  searchable = moved (start .pre .1 .2) (o .operands-of .ensures .1 .start) (o .operands-of .ensures .1 .rows) (start .pre .1 .0 (start .args .p) (start .pre .0 .1))
+
+  partners-searchable : Searchable (start .args .w .now) (start .args .objects .now) (start .args .first) (o .operands-of .result .against) (o .operands-of .result .partners)
+  partners-searchable = moved (start .pre .1 .2) (o .operands-of .ensures .1 .against) (o .operands-of .ensures .1 .partners) (start .pre .1 .0 (start .args .q) (start .pre .0 .2))
 
 -- whether the rows would be stored, by the rows that the semi-join is of
-asked : (c : tie.After-is-stored)
-    → let start = c .before .before .before .before .before .before .before in
-    c .is-stored .result ≡ isStored (start .args .t) (countOf start) (length (semiJoinOf start .full))
-asked c = rw (sym (c .before .before .before .before .operands-at .ensures .full)) (c .is-stored .ensures)
+asked : (c : tie.After-is-stored) → let o = c .before .before .before .before in
+    c .is-stored .result ≡ isStored (start o .args .t) (countOf o) (length (semiJoinOf (start o) .full))
+asked c = rw (sym (c .before .before .before .before .operands-of .ensures .0 .full)) (c .is-stored .ensures)
 
 -- whether the words at hand are the rows that the semi-join leaves
-compared : (c : tie.After-compare-partnered)
-    → let start = c .before .before .before .before .before .before .before .before .before .before .before in
-    c .compare-partnered .result ≡ sameWords (take (2 * countOf start) (drop (start .args .here) (start .args .w .now))) (tableWords (semiJoinOf start .rows))
-compared c = rw (sym (c .before .before .before .before .before .before .before .before .operands-at .ensures .left)) (c .compare-partnered .ensures)
+compared : (c : tie.After-compare-partnered) → let o = c .before .before .before .before .before .before .before .before in
+    c .compare-partnered .result ≡ sameWords (take (2 * countOf o) (drop (start o .args .here) (start o .args .w .now))) (tableWords (semiJoinOf (start o) .rows))
+compared c = rw (sym (c .before .before .before .before .before .before .before .before .operands-of .ensures .0 .left)) (c .compare-partnered .ensures)
 
 -- how many rows it leaves
-counted : (c : tie.After-count-partnered) → c .count-partnered .result ≡ length (semiJoinOf (c .before .before .before .before .before .before .before .before .before .before) .rows)
-counted c = rw (sym (c .before .before .before .before .before .before .before .operands-at .ensures .left)) (c .count-partnered .ensures)
+counted : (c : tie.After-count-partnered) → c .count-partnered .result ≡ length (semiJoinOf (start (c .before .before .before .before .before .before .before .before)) .rows)
+counted c = rw (sym (c .before .before .before .before .before .before .before .before .operands-of .ensures .0 .left)) (c .count-partnered .ensures)
 
--- rows that are a table's can be searched
-searchable : {words objects : List ℕ} {count first start n : ℕ} → length (siteIn count words) ≡ count → AllSearchable count words objects count
-    → first ≡ rowsStart count → (i : ℕ) × (i < length (siteIn count words)) × (n ≡ getD words (3 + 3 * i + 1) 0) × (start ≡ getD words (3 + 3 * i + 2) 0)
-    → Searchable words objects first start n
-searchable size all e (i, inside, rows, at) = rw (e, rows, at) (all i (rw size at inside))
-
-operands-at-requires : tie.Need-operands-at-requires
-operands-at-requires c κs = search needs
-
-mul-entry : tie.Need-mul-entry
-mul-entry c = search needs
-
-add-entry : tie.Need-add-entry
-add-entry c = search needs
-
-mul-entry-2 : tie.Need-mul-entry-2
-mul-entry-2 c = omega (arith, small (c .before .before .before))
-
-add-entry-2 : tie.Need-add-entry-2
-add-entry-2 c = omega (arith, small (c .before .before .before))
+operands-of-requires : tie.Need-operands-of-requires
+operands-of-requires c κs = search needs
 
 mul-left : tie.Need-mul-left
-mul-left c = omega (arith, small (c .before .before .before))
+mul-left c = omega (arith, inside c)
 
 shared-slice-read-left : tie.Need-shared-slice-read-left
-shared-slice-read-left c = omega (arith, small (c .before .before .before .before))
+shared-slice-read-left c = omega (arith, inside (c .before))
 
 cast-left : tie.Need-cast-left
 cast-left c = fits-widen tt (c .shared-slice-known3 .given _)
 
 add-start : tie.Need-add-start
-add-start c = omega (arith, small (c .before .before .before .before))
+add-start c = omega (arith, inside (c .before))
 
 mul-start : tie.Need-mul-start
-mul-start c = omega (arith, small (c .before .before .before .before))
+mul-start c = omega (arith, inside (c .before))
 
 shared-slice-read-start : tie.Need-shared-slice-read-start
-shared-slice-read-start c = omega (arith, small (c .before .before .before .before .before))
+shared-slice-read-start c = omega (arith, inside (c .before .before))
 
 cast-start : tie.Need-cast-start
 cast-start c = fits-widen tt (c .shared-slice-known4 .given _)
 
 returns : tie.Need-returns
 returns c =
-    let start = c .before .before .before .before .before .before in
-    ends-wrong _ _ _ _ _ _
-    (λ j. omega (arith, j .count, left-fewer (start .pre .0 .0) (start .args .x) (start .pre .0 .1), c .before .before .before .operands-at .ensures .full, c .if1 .taken))
+    let o = c .before .before .before in
+    at-entry o
+    (ends-wrong _ _ _ _ _ _
+    (λ j. omega (arith, j .count, left-fewer (start o .pre .0 .0) (place (start o)) (among (start o)), o .operands-of .ensures .0 .full, c .if1 .taken)))
 
 is-stored-requires : tie.Need-is-stored-requires
 is-stored-requires c κs =
-    let start = c .before .before .before .before .before .before in
-    let few = counted-of (start .pre .0 .0) (start .args .x) (start .pre .0 .1) refl (c .before .before .before .operands-at .ensures .full) .full-few in
-    (start .pre .0 .2, omega (arith, few, c .if1 .left), few)
+    let o = c .before .before .before in
+    let few = counted-of (start o .pre .0 .0) (place (start o)) (among (start o)) refl (o .operands-of .ensures .0 .full) .full-few in
+    (start o .pre .0 .4, omega (arith, few, c .if1 .left), few)
 
 mul-if4 : tie.Need-mul-if4
 mul-if4 c = search needs
@@ -115,68 +135,86 @@ add-if4 c = search needs
 returns-2 : tie.Need-returns-2
 returns-2 c =
     let test = c .before in
-    ends-wrong _ _ _ _ _ _
+    at-entry (test .before .before .before .before .before)
+    (ends-wrong _ _ _ _ _ _
     (λ j.
     let x = stored _ _ _ _ _ _ (sym (asked (test .before)) ∙ test .if2 .taken) j in
-    ⊎-elim (λ w. w .taken (x .begins)) (λ w. not-both (w .1 .taken) (le-ltb _ _ (x .room))) (c .if3 .came))
+    ⊎-elim (λ w. w .taken (x .begins)) (λ w. not-both (w .1 .taken) (le-ltb _ _ (x .room))) (c .if3 .came)))
 
 compare-partnered-requires : tie.Need-compare-partnered-requires
 compare-partnered-requires c κs =
-    let start = c .before .before .before .before .before .before .before .before .before .before in
-    let o = c .before .before .before .before .before .before .before .operands-at .ensures in
-    ((o .inside, searchable (start .pre .0 .0 .predicates) (start .pre .1 .0) (start .pre .1 .1) (o .partner-table), o .own-column, o .partner-column), le-trans (ltb-false _ _ (c .if4 .left)) (c .before .before .before .before .before .before .before .before .before .before .pre .0 .4))
+    let o = c .before .before .before .before .before .before .before in
+    let known = o .operands-of .ensures .0 in
+    ((known .inside, partners-searchable o, known .own-column, known .partner-column), le-trans (ltb-false _ _ (c .if4 .left)) (start o .pre .0 .6))
 
-mul-t27 : tie.Need-mul-t27
-mul-t27 c = search needs
+mul-t31 : tie.Need-mul-t31
+mul-t31 c = search needs
 
-add-t28 : tie.Need-add-t28
-add-t28 c = search needs
+add-t32 : tie.Need-add-t32
+add-t32 c = search needs
 
 returns-3 : tie.Need-returns-3
 returns-3 c =
     let test = c .before .before .before .before in
-    ends-stored _ _ _ _ _ _ (sym (asked (test .before)) ∙ test .if2 .taken)
+    let o = test .before .before .before .before .before in
+    at-entry o
+    (ends-stored _ _ _ _ _ _ (sym (asked (test .before)) ∙ test .if2 .taken)
     (record { begins = c .before .before .before .if3 .left; room = ltb-false _ _ (c .before .before .if4 .left); same = sym (compared (c .before)) ∙ c .if5 .taken })
-    (test .before .before .before .before .before .before .before .before .pre .0 .4)
+    (start o .pre .0 .6))
 
 returns-4 : tie.Need-returns-4
 returns-4 c =
     let test = c .before .before .before .before in
-    ends-wrong _ _ _ _ _ _
-    (λ j. not-both (stored _ _ _ _ _ _ (sym (asked (test .before)) ∙ test .if2 .taken) j .same) (sym (compared (c .before)) ∙ c .if5 .left))
+    at-entry (test .before .before .before .before .before)
+    (ends-wrong _ _ _ _ _ _
+    (λ j. not-both (stored _ _ _ _ _ _ (sym (asked (test .before)) ∙ test .if2 .taken) j .same) (sym (compared (c .before)) ∙ c .if5 .left)))
+
+mul-gapless : tie.Need-mul-gapless
+mul-gapless c = search needs
+
+add-gapless : tie.Need-add-gapless
+add-gapless c = search needs
+
+element-copy-out-gapless : tie.Need-element-copy-out-gapless
+element-copy-out-gapless c =
+    let o = c .before .before .before .before .before in
+    omega (arith, few-predicates (start o .pre .0 .0), start o .pre .0 .2, o .operands-of .ensures .0 .partner-column)
 
 count-partnered-requires : tie.Need-count-partnered-requires
 count-partnered-requires c κs =
-    let start = c .before .before .before .before .before .before .before .before .before in
-    let o = c .before .before .before .before .before .before .operands-at .ensures in
-    (searchable (start .pre .0 .0 .predicates) (start .pre .1 .0) (start .pre .1 .1) (o .own-table), searchable (start .pre .0 .0 .predicates) (start .pre .1 .0) (start .pre .1 .1) (o .partner-table), o .own-column, o .partner-column)
+    let o = c .before .before .before .before .before .before .before in
+    let known = o .operands-of .ensures .0 in
+    let tables = o .operands-of .ensures .1 in (
+      (searchable o, partners-searchable o, known .own-column, known .partner-column),
+      gapless-moved (start o .args .w .now) (start o .args .objects .now) (o .operands-of .result .other) (start o .pre .1 .2) (tables .against) (tables .partners)
+          (start o .pre .1 .1 (start o .args .q) (start o .pre .0 .2) (o .operands-of .result .other) (known .partner-column)),
+    )
 
 returns-5 : tie.Need-returns-5
 returns-5 c =
-    let test = c .before in
-    let o = test .before .before .before .before .before .operands-at .ensures in
-    ends-wrong _ _ _ _ _ _
+    let test = c .before .before in
+    let o = test .before .before .before .before .before in
+    at-entry o
+    (ends-wrong _ _ _ _ _ _
     (λ j.
     ⊎-elim (λ w. w .taken (not-stored _ _ _ _ _ _ (sym (asked (test .before)) ∙ test .if2 .left) j))
-    (λ w. eqb-false _ _ (not-true _ (w .2 .taken)) (w .1 .ensures ∙ ap length (o .left) ∙ sym (j .count))) (c .if6 .came))
+    (λ w. eqb-false _ _ (not-true _ (w .2 .taken)) (w .1 .ensures ∙ ap length (o .operands-of .ensures .0 .left) ∙ sym (j .count))) (c .if6 .came)))
 
 returns-6 : tie.Need-returns-6
 returns-6 c =
-    let test = c .before .before .before in
-    ends-not-stored _ _ _ _ _ _ (sym (asked (test .before)) ∙ test .if2 .left)
+    let test = c .before .before .before .before in
+    let o = test .before .before .before .before .before in
+    at-entry o
+    (ends-not-stored _ _ _ _ _ _ (sym (asked (test .before)) ∙ test .if2 .left)
     (sym (eqb-true _ _ (not-false _ (c .if7 .left))) ∙ counted (c .before))
     (c .before .before .if6 .left)
-    (test .before .before .before .before .before .before .before .before .pre .0 .3)
+    (start o .pre .0 .5))
 
 pub semi-join-end-spec : {M : Type 1} → statement M
 semi-join-end-spec =
     tie.close
     (tie.spec
-    operands-at-requires
-    mul-entry
-    add-entry
-    mul-entry-2
-    add-entry-2
+    operands-of-requires
     mul-left
     shared-slice-read-left
     cast-left
@@ -190,10 +228,13 @@ semi-join-end-spec =
     add-if4
     returns-2
     compare-partnered-requires
-    mul-t27
-    add-t28
+    mul-t31
+    add-t32
     returns-3
     returns-4
+    mul-gapless
+    add-gapless
+    element-copy-out-gapless
     count-partnered-requires
     returns-5
     returns-6)
