@@ -55,6 +55,16 @@ module _ (words : List ℕ) (base stride : ℕ) {n value : ℕ} where
             let later : place ≤ i = le-of-suc-le-suc (lt-of-not-le (λ earlier. let less = s .lower i earlier in omega arith)) in
             eqb-false _ value e (omega (arith, ascending place i later l, s .others place (omega arith) h)))
 
+  -- a word that is not below the value splits them, where the word before it is below
+  pub splits-after : {place : ℕ} → Ascending words base stride n → place < n
+      → (0 < place → wordAt words base stride (place - 1) < value) → value ≤ wordAt words base stride place
+      → Splits words base stride n value place
+  splits-after {place} ascending h before there = record {
+    within = omega arith;
+    lower = λ i l. omega (arith, before (omega arith), ascending i (place - 1) (omega arith) (omega arith));
+    others = λ i l m. omega (arith, ascending place i l m);
+  }
+
 -- where the last word is not below the value, not all of them are
 pub splits-inside : {words : List ℕ} {base stride n value place : ℕ} → Splits words base stride n value place → 0 < n
     → value ≤ wordAt words base stride (n - 1) → place < n

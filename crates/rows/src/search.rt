@@ -21,6 +21,29 @@ pub fn words_below(words: &[u32], base: usize, stride: usize, n: usize, value: u
     low
 }
 
+// The same. Terms are often numbered in a row: the place is tried first that the value has then.
+pub fn first_not_below(words: &[u32], base: usize, stride: usize, n: usize, value: u32) -> usize
+    requires { ⌜ (0 < stride) × (base + stride * n ≤ length (now words)) × Ascending (now words) base stride n ⌝ }
+    ensures { λ r. ⌜ Splits (now (words .entry)) base stride n value r ⌝ }
+{
+    if n == 0 {
+        return 0;
+    }
+    let first = words[base];
+    if value <= first {
+        return 0;
+    }
+    let guess = (value - first) as usize;
+    // Of equal words the first is the place: the word before it is smaller.
+    if guess < n
+        && words[base + stride * (guess - 1)] < value
+        && value <= words[base + stride * guess]
+    {
+        return guess;
+    }
+    words_below(words, base, stride, n, value)
+}
+
 // Whether one of n ascending words has a value, by search.
 fn search_word(words: &[u32], base: usize, stride: usize, n: usize, value: u32) -> bool
     requires { ⌜ (0 < stride) × (base + stride * n ≤ length (now words)) × Ascending (now words) base stride n × (0 < n) ⌝ }
