@@ -3,5 +3,7 @@ pub mod EmptyTables
 pub mod StepNumbers
 pub mod Variables
 pub mod RowResults
+pub mod Exchanges
 pub mod PlanRows
+pub mod Rearranged
 pub mod RunReplies
