@@ -1,8 +1,7 @@
 -- The laws the proofs of this crate rest on.
 pub mod Comparing
 pub mod Partnered
-pub mod Apart
-pub mod Gapless
+pub mod ColumnRanges
 pub mod SortedObjects
 pub mod SearchableTables
 pub mod Declared

@@ -2,3 +2,4 @@
 pub mod Joins
 pub mod Lookups
 pub mod Searching
+pub mod Ranges

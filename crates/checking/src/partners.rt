@@ -7,7 +7,8 @@ ghost use Rattle.model.specs.Tables.{at, semiJoin};
 ghost use Rattle.model.specs.Store.{rowsIn, tableWords};
 ghost use Rattle.tables.specs.Columns.{columnOf, kindOfColumns};
 ghost use Rattle.rows.specs.Search.{Ascending};
-ghost use Rattle.checking.specs.Searching.{Searchable, rowsWith, valueAt, areApart, isBetween, columnGapless};
+ghost use Rattle.checking.specs.Searching.{Searchable, rowsWith};
+ghost use Rattle.checking.specs.Ranges.{ColumnRange};
 use rows::search::has_word;
 
 // Whether some of the n rows at `start` has a value at a column: by search in the rows where it is the subject, else in their objects'
@@ -28,78 +29,6 @@ pub fn has_partner(
         return has_word(w, start, 2, n, value);
     }
     has_word(objects, (start - first) / 2, 1, n, value)
-}
-
-// The i-th value of a column of the n rows at `start`, in ascending order.
-fn value_at(
-    w: &[u32],
-    objects: &[u32],
-    first: usize,
-    start: usize,
-    n: usize,
-    column: usize,
-    i: usize,
-) -> u32
-    requires { ⌜ Searchable (now w) (now objects) first start n × (column < 2) × (i < n) ⌝ }
-    ensures { λ r. ⌜ r ≡ valueAt (now (w .entry)) (now (objects .entry)) first start column i ⌝ }
-{
-    if column == 0 {
-        return w[start + 2 * i];
-    }
-    objects[(start - first) / 2 + i]
-}
-
-// Whether the values of the two columns are apart: there are none, or all of the one are below all of the other.
-fn columns_apart(
-    w: &[u32],
-    objects: &[u32],
-    first: usize,
-    p: usize,
-    m: usize,
-    own: usize,
-    q: usize,
-    n: usize,
-    other: usize,
-) -> bool
-    requires { ⌜ Searchable (now w) (now objects) first p m × Searchable (now w) (now objects) first q n × (own < 2) × (other < 2) ⌝ }
-    ensures { λ r. ⌜ r ≡ areApart (now (w .entry)) (now (objects .entry)) first p m own q n other ⌝ }
-{
-    if m == 0 {
-        return true;
-    }
-    if n == 0 {
-        return true;
-    }
-    let highest = value_at(w, objects, first, p, m, own, m - 1);
-    let partner_lowest = value_at(w, objects, first, q, n, other, 0);
-    if highest < partner_lowest {
-        return true;
-    }
-    let lowest = value_at(w, objects, first, p, m, own, 0);
-    let partner_highest = value_at(w, objects, first, q, n, other, n - 1);
-    partner_highest < lowest
-}
-
-// Whether the values of column `own` of the m rows at p are all between the lowest and the highest of column `other` of the n rows at q.
-fn column_between(
-    w: &[u32],
-    objects: &[u32],
-    first: usize,
-    p: usize,
-    m: usize,
-    own: usize,
-    q: usize,
-    n: usize,
-    other: usize,
-) -> bool
-    requires { ⌜ Searchable (now w) (now objects) first p m × Searchable (now w) (now objects) first q n × (own < 2) × (other < 2) × (0 < m) × (0 < n) ⌝ }
-    ensures { λ r. ⌜ r ≡ isBetween (now (w .entry)) (now (objects .entry)) first p m own q n other ⌝ }
-{
-    let lowest = value_at(w, objects, first, p, m, own, 0);
-    let highest = value_at(w, objects, first, p, m, own, m - 1);
-    let partner_lowest = value_at(w, objects, first, q, n, other, 0);
-    let partner_highest = value_at(w, objects, first, q, n, other, n - 1);
-    partner_lowest <= lowest && highest <= partner_highest
 }
 
 // How many of the m rows at p have, in column `own`, a value that one of n ascending words has.
@@ -126,28 +55,37 @@ fn count_words(
     kept
 }
 
-// How many of the m rows at p have, in column `own`, a value that one of the n rows at q has in column `other`; all of them, where that
-// column has no gaps and the values are between its lowest and its highest. Which words are searched is decided once, before the rows.
+// How many of the m rows at p have, in column `own`, a value that one of the n rows at q has in column `other`. The ranges of the two
+// columns stand at a and b: by them none may have, or all; else which words are searched is decided once, before the rows.
 pub fn count_partnered(
     w: &[u32],
     objects: &[u32],
     first: usize,
+    ranges: &[u32; 96],
+    a: usize,
+    b: usize,
     p: usize,
     m: usize,
     own: usize,
     q: usize,
     n: usize,
     other: usize,
-    gapless: bool,
 ) -> usize
-    requires { ⌜ Searchable (now w) (now objects) first p m × Searchable (now w) (now objects) first q n × (own < 2) × (other < 2) ⌝ }
-    requires { ⌜ gapless ≡ columnGapless (now w) (now objects) first q n other ⌝ }
+    requires { ⌜ (p + 2 * m ≤ length (now w)) × Searchable (now w) (now objects) first q n × (own < 2) × (other < 2) ⌝ }
+    requires { ⌜ (a + 3 ≤ 96) × (b + 3 ≤ 96) × ColumnRange (now w) p m own (now ranges) a × ColumnRange (now w) q n other (now ranges) b ⌝ }
     ensures { λ r. ⌜ r ≡ length (semiJoin (kindOfColumns own other) (rowsIn m (drop p (now (w .entry)))) (rowsIn n (drop q (now (w .entry))))) ⌝ }
 {
-    if columns_apart(w, objects, first, p, m, own, q, n, other) {
+    let lowest = ranges[a];
+    let highest = ranges[a + 1];
+    let partner_lowest = ranges[b];
+    let partner_highest = ranges[b + 1];
+    if highest < partner_lowest {
         return 0;
     }
-    if gapless && column_between(w, objects, first, p, m, own, q, n, other) {
+    if partner_highest < lowest {
+        return 0;
+    }
+    if ranges[b + 2] == 1 && partner_lowest <= lowest && highest <= partner_highest {
         return m;
     }
     if other == 0 {

@@ -6,14 +6,15 @@ ghost use Rattle.model.specs.Site.{rowTotal};
 ghost use Rattle.model.specs.Tables.{kindCount, mostThreshold};
 ghost use Rattle.model.specs.Store.{kept, rowsStart, storedStart};
 ghost use Rattle.tables.specs.SiteWords.{siteIn, ImageOf, reducedAt, semiJoinPlace};
-ghost use Rattle.checking.specs.Searching.{AllSearchable, GapsMarked};
+ghost use Rattle.checking.specs.Searching.{AllSearchable};
+ghost use Rattle.checking.specs.Ranges.{AllMeasured};
 ghost use Rattle.checking.specs.Joins.{joinHolds, joinsHold};
 ghost use Rattle.checking.specs.declared.entries.Place.the-variants.{At, Wrong};
 use crate::entries::Place;
-use crate::gaps::mark_gapless;
 use crate::objects::copy_objects;
 use crate::partners::compare_partnered;
 use crate::partners::count_partnered;
+use crate::ranges::measure_columns;
 use tables::kinds::KINDS;
 use tables::kinds::is_stored;
 use tables::operands::operands_of;
@@ -24,7 +25,7 @@ pub fn semi_join_end(
     t: usize,
     w: &[u32],
     objects: &[u32],
-    marks: &[bool; 32],
+    ranges: &[u32; 96],
     first: usize,
     count: usize,
     p: usize,
@@ -34,7 +35,7 @@ pub fn semi_join_end(
     used: usize,
 ) -> Place
     requires { ⌜ ImageOf count (now w) × (p < count) × (q < count) × (k < kindCount) × (t ≤ mostThreshold) × (here ≤ used) × (used ≤ length (now w)) ⌝ }
-    requires { ⌜ AllSearchable count (now w) (now objects) count × GapsMarked count (now w) (now objects) (now marks) count × (first ≡ rowsStart count) ⌝ }
+    requires { ⌜ AllSearchable count (now w) (now objects) count × AllMeasured (now w) (now ranges) count × (first ≡ rowsStart count) ⌝ }
     ensures { λ r. ⌜ r ≡ cond (joinHolds t (now (w .entry)) (reducedAt (siteIn count (now (w .entry))) (semiJoinPlace count p q k)) (3 + 3 * count + 2 * semiJoinPlace count p q k) here used) (At (here + 2 * length (kept t (reducedAt (siteIn count (now (w .entry))) (semiJoinPlace count p q k))))) Wrong ⌝ }
 {
     let o = operands_of(w, count, p, q, k);
@@ -66,23 +67,26 @@ pub fn semi_join_end(
         }
         return Place::Wrong;
     }
+    if start != 0 {
+        return Place::Wrong;
+    }
+    let own = o.own;
     let other = o.other;
-    let gapless = marks[2 * q + other];
-    if start != 0
-        || count_partnered(
-            w,
-            objects,
-            first,
-            o.start,
-            rows,
-            o.own,
-            o.against,
-            o.partners,
-            other,
-            gapless,
-        )
-            != left
-    {
+    let counted = count_partnered(
+        w,
+        objects,
+        first,
+        ranges,
+        6 * p + 3 * own,
+        6 * q + 3 * other,
+        o.start,
+        rows,
+        own,
+        o.against,
+        o.partners,
+        other,
+    );
+    if counted != left {
         return Place::Wrong;
     }
     Place::At(here)
@@ -103,15 +107,26 @@ fn semi_joins_hold_with(
 {
     copy_objects(w, count, objects);
     let rows = rows_start(count);
-    let mut marks = [false; 32];
-    mark_gapless(w, objects, rows, count, &mut marks);
+    let mut ranges = [0u32; 96];
+    measure_columns(w, objects, rows, count, &mut ranges);
     let mut here = first;
     let mut p: usize = 0;
     let mut q: usize = 0;
     let mut k: usize = 0;
     while p < count {
-        let Place::At(next) = semi_join_end(t, w, objects, &marks, rows, count, p, q, k, here, used)
-        else {
+        let Place::At(next) = semi_join_end(
+            t,
+            w,
+            objects,
+            &ranges,
+            rows,
+            count,
+            p,
+            q,
+            k,
+            here,
+            used,
+        ) else {
             return false;
         };
         here = next;

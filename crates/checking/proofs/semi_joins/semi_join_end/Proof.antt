@@ -4,18 +4,18 @@ use native.Mathlib.Nat.{le-trans}
 use native.Mathlib.Omega.{arith}
 use mir.Facts.{fits-widen}
 use mathlib.Core.Path.{_≡_, refl, sym, ap, _∙_, subst}
-use mathlib.Core.Bool.{Bool}
 use mathlib.Core.Logic.{⊎-elim}
 use mathlib.Core.List.{List}
 use lib.ListN.{length, getD, take, drop}
 use borrow.Author.Needs.{needs}
-use borrow.Author.Tests.{ltb-false, le-ltb, eqb-true, eqb-false, not-true, not-false}
+use borrow.Author.Tests.{ltb-false, le-ltb}
 use Rattle.model.specs.Lists.{sameWords}
 use Rattle.model.specs.Tables.{isStored, kindCount}
 use Rattle.model.specs.Store.{Reduced, tableWords}
 use Rattle.model.proofs.Booleans.{not-both}
 use Rattle.tables.specs.SiteWords.{siteIn, reducedAt, semiJoinPlace}
-use Rattle.checking.specs.Searching.{Searchable, columnGapless}
+use Rattle.checking.specs.Searching.{Searchable}
+use Rattle.checking.specs.Ranges.{ColumnRange}
 use Rattle.tables.proofs.Images.{few-predicates, entries-inside}
 use Rattle.tables.proofs.Entries.{place-below, counted-of, left-fewer}
 use Rattle.checking.specs.declared.entries.Place.{Place}
@@ -34,14 +34,14 @@ among c = place-below (c .args .p) (c .args .q) (c .args .k) (c .pre .0 .1) (c .
 abbrev semiJoinOf : tie.Start → Reduced
 semiJoinOf c = reducedAt (siteIn (c .args .count) (c .args .w .now)) (place c)
 
--- rows that are a table's can be searched, and where a column of theirs has no gaps is marked
+-- rows that are a table's can be searched, and their columns have its ranges
 moved : {words objects : List ℕ} {first at start from n rows : ℕ} → first ≡ at → start ≡ from → n ≡ rows
     → Searchable words objects at from rows → Searchable words objects first start n
 moved a b c s = rw (a, b, c) s
 
-gapless-moved : (words objects : List ℕ) {first at start from n rows : ℕ} {mark : Bool} (column : ℕ) → first ≡ at → start ≡ from → n ≡ rows
-    → mark ≡ columnGapless words objects at from rows column → mark ≡ columnGapless words objects first start n column
-gapless-moved words objects column a b c e = rw (a, b, c) e
+range-moved : (words ranges : List ℕ) (column place : ℕ) {start from n rows : ℕ} → start ≡ from → n ≡ rows
+    → ColumnRange words from rows column ranges place → ColumnRange words start n column ranges place
+range-moved words ranges column place a b r = rw (a, b) r
 
 -- what is known once the operands are
 module _ (o : tie.After-operands-of) where
@@ -86,8 +86,8 @@ compared : (c : tie.After-compare-partnered) → let o = c .before .before .befo
 compared c = rw (sym (c .before .before .before .before .before .before .before .before .operands-of .ensures .0 .left)) (c .compare-partnered .ensures)
 
 -- how many rows it leaves
-counted : (c : tie.After-count-partnered) → c .count-partnered .result ≡ length (semiJoinOf (start (c .before .before .before .before .before .before .before .before)) .rows)
-counted c = rw (sym (c .before .before .before .before .before .before .before .before .operands-of .ensures .0 .left)) (c .count-partnered .ensures)
+counted : (c : tie.After-count-partnered) → c .count-partnered .result ≡ length (semiJoinOf (start (c .before .before .before .before .before .before .before)) .rows)
+counted c = rw (sym (c .before .before .before .before .before .before .before .operands-of .ensures .0 .left)) (c .count-partnered .ensures)
 
 operands-of-requires : tie.Need-operands-of-requires
 operands-of-requires c κs = search needs
@@ -147,11 +147,11 @@ compare-partnered-requires c κs =
     let known = o .operands-of .ensures .0 in
     ((known .inside, partners-searchable o, known .own-column, known .partner-column), le-trans (ltb-false _ _ (c .if4 .left)) (start o .pre .0 .6))
 
-mul-t31 : tie.Need-mul-t31
-mul-t31 c = search needs
+mul-t32 : tie.Need-mul-t32
+mul-t32 c = search needs
 
-add-t32 : tie.Need-add-t32
-add-t32 c = search needs
+add-t33 : tie.Need-add-t33
+add-t33 c = search needs
 
 returns-3 : tie.Need-returns-3
 returns-3 c =
@@ -169,46 +169,52 @@ returns-4 c =
     (ends-wrong _ _ _ _ _ _
     (λ j. not-both (stored _ _ _ _ _ _ (sym (asked (test .before)) ∙ test .if2 .taken) j .same) (sym (compared (c .before)) ∙ c .if5 .left)))
 
-mul-gapless : tie.Need-mul-gapless
-mul-gapless c = search needs
+returns-5 : tie.Need-returns-5
+returns-5 c =
+    let test = c .before in
+    at-entry (test .before .before .before .before .before)
+    (ends-wrong _ _ _ _ _ _ (λ j. c .if6 .taken (not-stored _ _ _ _ _ _ (sym (asked (test .before)) ∙ test .if2 .left) j)))
 
-add-gapless : tie.Need-add-gapless
-add-gapless c = search needs
+mul-count-partnered : tie.Need-mul-count-partnered
+mul-count-partnered c = search needs
 
-element-copy-out-gapless : tie.Need-element-copy-out-gapless
-element-copy-out-gapless c =
-    let o = c .before .before .before .before .before in
-    omega (arith, few-predicates (start o .pre .0 .0), start o .pre .0 .2, o .operands-of .ensures .0 .partner-column)
+mul-count-partnered-2 : tie.Need-mul-count-partnered-2
+mul-count-partnered-2 c = search needs
+
+add-count-partnered : tie.Need-add-count-partnered
+add-count-partnered c = search needs
+
+mul-count-partnered-3 : tie.Need-mul-count-partnered-3
+mul-count-partnered-3 c = search needs
+
+mul-count-partnered-4 : tie.Need-mul-count-partnered-4
+mul-count-partnered-4 c = search needs
+
+add-count-partnered-2 : tie.Need-add-count-partnered-2
+add-count-partnered-2 c = search needs
 
 count-partnered-requires : tie.Need-count-partnered-requires
 count-partnered-requires c κs =
-    let o = c .before .before .before .before .before .before .before in
+    let o = c .before .before .before .before .before .before in
     let known = o .operands-of .ensures .0 in
-    let tables = o .operands-of .ensures .1 in (
-      (searchable o, partners-searchable o, known .own-column, known .partner-column),
-      gapless-moved (start o .args .w .now) (start o .args .objects .now) (o .operands-of .result .other) (start o .pre .1 .2) (tables .against) (tables .partners)
-          (start o .pre .1 .1 (start o .args .q) (start o .pre .0 .2) (o .operands-of .result .other) (known .partner-column)),
-    )
-
-returns-5 : tie.Need-returns-5
-returns-5 c =
-    let test = c .before .before in
-    let o = test .before .before .before .before .before in
-    at-entry o
-    (ends-wrong _ _ _ _ _ _
-    (λ j.
-    ⊎-elim (λ w. w .taken (not-stored _ _ _ _ _ _ (sym (asked (test .before)) ∙ test .if2 .left) j))
-    (λ w. eqb-false _ _ (not-true _ (w .2 .taken)) (w .1 .ensures ∙ ap length (o .operands-of .ensures .0 .left) ∙ sym (j .count))) (c .if6 .came)))
+    let tables = o .operands-of .ensures .1 in
+    let few = few-predicates (start o .pre .0 .0) in
+    let measured = start o .pre .1 .1 in
+    let own-range = range-moved (start o .args .w .now) (start o .args .ranges .now) (o .operands-of .result .own) _ (tables .start) (tables .rows) (measured (start o .args .p) (start o .pre .0 .1) (o .operands-of .result .own) (known .own-column)) in
+    let partner-range = range-moved (start o .args .w .now) (start o .args .ranges .now) (o .operands-of .result .other) _ (tables .against) (tables .partners) (measured (start o .args .q) (start o .pre .0 .2) (o .operands-of .result .other) (known .partner-column)) in
+    ((known .inside, partners-searchable o, known .own-column, known .partner-column), (omega (arith, known .own-column, start o .pre .0 .1), omega (arith, known .partner-column, start o .pre .0 .2), own-range, partner-range))
 
 returns-6 : tie.Need-returns-6
 returns-6 c =
-    let test = c .before .before .before .before in
+    let o = c .before .before .before .before .before .before .before .before in
+    at-entry o (ends-wrong _ _ _ _ _ _ (λ j. c .if7 .taken (counted (c .before) ∙ sym (j .count))))
+
+returns-7 : tie.Need-returns-7
+returns-7 c =
+    let test = c .before .before .before in
     let o = test .before .before .before .before .before in
     at-entry o
-    (ends-not-stored _ _ _ _ _ _ (sym (asked (test .before)) ∙ test .if2 .left)
-    (sym (eqb-true _ _ (not-false _ (c .if7 .left))) ∙ counted (c .before))
-    (c .before .before .if6 .left)
-    (start o .pre .0 .5))
+    (ends-not-stored _ _ _ _ _ _ (sym (asked (test .before)) ∙ test .if2 .left) (sym (c .if7 .left) ∙ counted (c .before)) (c .before .before .if6 .left) (start o .pre .0 .5))
 
 pub semi-join-end-spec : {M : Type 1} → statement M
 semi-join-end-spec =
@@ -228,13 +234,17 @@ semi-join-end-spec =
     add-if4
     returns-2
     compare-partnered-requires
-    mul-t31
-    add-t32
+    mul-t32
+    add-t33
     returns-3
     returns-4
-    mul-gapless
-    add-gapless
-    element-copy-out-gapless
-    count-partnered-requires
     returns-5
-    returns-6)
+    mul-count-partnered
+    mul-count-partnered-2
+    add-count-partnered
+    mul-count-partnered-3
+    mul-count-partnered-4
+    add-count-partnered-2
+    count-partnered-requires
+    returns-6
+    returns-7)

@@ -25,13 +25,13 @@ copy-objects-requires c κs = (c .before .before .before .pre .0, c .before .bef
 rows-start-requires : tie.Need-rows-start-requires Inv-loop μ-loop
 rows-start-requires c κs = few-predicates (c .before .before .before .before .before .before .pre .0)
 
-mark-gapless-requires : tie.Need-mark-gapless-requires Inv-loop μ-loop
-mark-gapless-requires c κs =
+measure-columns-requires : tie.Need-measure-columns-requires Inv-loop μ-loop
+measure-columns-requires c κs =
     let s = c .before .before .before .before .before .before .before .before .before in
     (s .pre .0, c .before .before .before .before .before .copy-objects .ensures, c .before .before .rows-start .ensures, refl)
 
 -- where the call began
-abbrev start : tie.After-mark-gapless Inv-loop μ-loop → tie.Start Inv-loop μ-loop
+abbrev start : tie.After-measure-columns Inv-loop μ-loop → tie.Start Inv-loop μ-loop
 start m = m .before .before .before .before .before .before .before .before .before .before
 
 loop-holds : tie.Need-loop-holds Inv-loop μ-loop
@@ -47,7 +47,7 @@ semi-join-end-requires c κs =
     let inv = l .loop .inv in
     let below = c .before .before .loop-test .taken in (
       (s .pre .0, below, inv .0 .partner below, inv .0 .kind, s .pre .1, inv .1 .room, s .pre .4),
-      (m .before .before .before .before .before .before .copy-objects .ensures, m .mark-gapless .ensures, m .before .before .before .rows-start .ensures),
+      (m .before .before .before .before .before .before .copy-objects .ensures, m .measure-columns .ensures, m .before .before .before .rows-start .ensures),
     )
 
 enum-known-next : tie.Need-enum-known-next Inv-loop μ-loop
@@ -139,7 +139,7 @@ semi-joins-hold-with-spec =
     μ-loop
     copy-objects-requires
     rows-start-requires
-    mark-gapless-requires
+    measure-columns-requires
     loop-holds
     semi-join-end-requires
     enum-known-next

@@ -1,5 +1,5 @@
 -- The entries of the two tables.
-use Prim.Native.Nat.{_+_, _*_, _<_, _≤_}
+use Prim.Native.Nat.{_<_, _≤_}
 use native.Mathlib.Omega.{arith}
 use mir.Facts.{fits-widen}
 use mathlib.Core.Path.{refl}

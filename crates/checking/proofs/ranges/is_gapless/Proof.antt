@@ -6,9 +6,9 @@ use lib.ListN.{length}
 use borrow.Author.Count.{below-more}
 use Rattle.rows.specs.Search.{wordAt}
 use Rattle.rows.proofs.WordSearch.{word-inside}
-use Rattle.checking.proofs.Gapless.{Near, all-near, not-near}
-use Rattle.checking.proofs.gaps.is_gapless.Statement.{statement}
-use Rattle.checking.proofs.gaps.is_gapless.Tie as tie
+use Rattle.checking.proofs.ColumnRanges.{Near, all-near, not-near}
+use Rattle.checking.proofs.ranges.is_gapless.Statement.{statement}
+use Rattle.checking.proofs.ranges.is_gapless.Tie as tie
 
 abbrev Inv-loop : tie.InvT-loop
 Inv-loop words base stride n i₀ i = (0 < i) × ((j : ℕ) → j + 1 < i → Near words base stride j)

@@ -1,21 +1,21 @@
--- The tables one by one. The invariant: the columns of each table passed are marked.
-use Prim.Native.Nat.{ℕ, _+_, _*_, _-_, _/_, _≤_, _<_}
+-- The tables one by one. The invariant: the ranges of each table passed are written.
+use Prim.Native.Nat.{ℕ, _+_, _*_, _-_, _≤_}
 use native.Mathlib.Omega.{arith}
-use mathlib.Core.Path.{_≡_, sym, subst}
+use mathlib.Core.Path.{_≡_, sym, ap, _∙_, subst}
 use lib.ListN.{length, getD, length-set}
-use Rattle.tables.specs.SiteWords.{ImageOf}
 use Rattle.tables.proofs.Images.{few-predicates, entries-inside}
-use Rattle.model.specs.Store.{rowsStart}
-use Rattle.checking.specs.Searching.{Searchable, GapsMarked}
-use Rattle.checking.proofs.Gapless.{table-marked}
-use Rattle.checking.proofs.gaps.mark_gapless.Statement.{statement}
-use Rattle.checking.proofs.gaps.mark_gapless.Tie as tie
+use Rattle.checking.specs.Searching.{Searchable}
+use Rattle.checking.specs.Ranges.{AllMeasured}
+use Rattle.checking.proofs.ColumnRanges.{range-same, table-measured}
+use Rattle.checking.proofs.Partnered.{same-subjects}
+use Rattle.checking.proofs.ranges.measure_columns.Statement.{statement}
+use Rattle.checking.proofs.ranges.measure_columns.Tie as tie
 
 abbrev Inv-loop : tie.InvT-loop
-Inv-loop w objects first count marks₀ i₀ marks i = (i ≤ count) × (length marks ≡ 32) × GapsMarked count w objects marks i
+Inv-loop w objects first count ranges₀ i₀ ranges i = (i ≤ count) × (length ranges ≡ 96) × AllMeasured w ranges i
 
 abbrev μ-loop : tie.MeasureT-loop
-μ-loop w objects first count marks₀ i₀ marks i = count - i
+μ-loop w objects first count ranges₀ i₀ ranges i = count - i
 
 module _ (c : tie.In-loop Inv-loop μ-loop) where
   abbrev start : tie.Start Inv-loop μ-loop
@@ -73,33 +73,34 @@ shared-slice-read-start c = omega (arith, entries-inside (start (c .before .befo
 cast-start : tie.Need-cast-start Inv-loop μ-loop
 cast-start c = omega (arith, c .shared-slice-known4 .given (3 + 3 * c .before .before .before .loop .i + 2))
 
-is-gapless-requires : tie.Need-is-gapless-requires Inv-loop μ-loop
-is-gapless-requires c κs =
+range-of-requires : tie.Need-range-of-requires Inv-loop μ-loop
+range-of-requires c κs =
     let table = searchable (c .before .before) in
     (omega arith, table .inside, table .subjects-ascend)
 
-mul-marks : tie.Need-mul-marks Inv-loop μ-loop
-mul-marks c = omega (arith, few (c .before .before .before))
+mul-put-range : tie.Need-mul-put-range Inv-loop μ-loop
+mul-put-range c = omega (arith, few (c .before .before .before .before))
 
-element-write-marks : tie.Need-element-write-marks Inv-loop μ-loop
-element-write-marks c = omega (arith, few (c .before .before .before))
+put-range-requires : tie.Need-put-range-requires Inv-loop μ-loop
+put-range-requires c κs = (omega (arith, few (c .before .before .before .before)), c .before .before .before .before .before .loop .inv .1)
 
-sub-is-gapless : tie.Need-sub-is-gapless Inv-loop μ-loop
-sub-is-gapless c = omega (arith, searchable (c .before .before .before) .behind)
+sub-range-of : tie.Need-sub-range-of Inv-loop μ-loop
+sub-range-of c = omega (arith, searchable (c .before .before .before .before .before) .behind)
 
-is-gapless-requires-2 : tie.Need-is-gapless-requires-2 Inv-loop μ-loop
-is-gapless-requires-2 c κs =
-    let table = searchable (c .before .before .before) in
+range-of-requires-2 : tie.Need-range-of-requires-2 Inv-loop μ-loop
+range-of-requires-2 c κs =
+    let table = searchable (c .before .before .before .before .before) in
     (omega arith, omega (arith, table .copied), table .objects-ascend)
 
-mul-marks-2 : tie.Need-mul-marks-2 Inv-loop μ-loop
-mul-marks-2 c = omega (arith, few (c .before .before .before .before))
+mul-put-range-2 : tie.Need-mul-put-range-2 Inv-loop μ-loop
+mul-put-range-2 c = omega (arith, few (c .before .before .before .before .before .before .before))
 
-add-marks : tie.Need-add-marks Inv-loop μ-loop
-add-marks c = omega (arith, few (c .before .before .before .before))
+add-put-range : tie.Need-add-put-range Inv-loop μ-loop
+add-put-range c = omega (arith, few (c .before .before .before .before .before .before .before))
 
-element-write-marks-2 : tie.Need-element-write-marks-2 Inv-loop μ-loop
-element-write-marks-2 c = omega (arith, few (c .before .before .before .before))
+put-range-requires-2 : tie.Need-put-range-requires-2 Inv-loop μ-loop
+put-range-requires-2 c κs =
+    (omega (arith, few (c .before .before .before .before .before .before .before)), ap length (c .before .before .put-range .ensures) ∙ simp length-set (c .before .before .before .before .before .before .before .before .loop .inv .1))
 
 add-i : tie.Need-add-i Inv-loop μ-loop
 add-i c = omega arith
@@ -109,20 +110,24 @@ loop-less c = omega arith
 
 loop-again : tie.Need-loop-again Inv-loop μ-loop
 loop-again c =
-    let turn = c .before .before .before .before in
+    let turn = c .before .before .before .before .before .before .before .before in
     let s = start turn in
-    let inv = turn .before .loop .inv in (
+    let inv = turn .before .loop .inv in
+    let table = searchable turn in
+    let first = c .before .before .before .put-range in (
       omega arith,
-      simp length-set (inv .1),
-      table-marked (s .args .count) (s .args .w .now) (s .args .objects .now) (turn .before .loop .marks) (turn .before .loop .i) _ _ (inv .2)
-          (omega (arith, few turn, inv .1)) (c .before .is-gapless .ensures) (rw (s .pre .2) at (c .is-gapless2 .ensures)),
+      ap length (c .put-range2 .ensures) ∙ simp length-set (ap length (first .ensures) ∙ simp length-set (inv .1)),
+      rw (c .put-range2 .ensures, first .ensures)
+          (table-measured (s .args .w .now) (turn .before .loop .ranges) (turn .before .loop .i) (omega (arith, few turn, inv .1)) (inv .2)
+          (range-same (λ x. same-subjects _ _ _ x (table .inside)) (c .before .before .before .before .before .range-of .ensures))
+          (range-same (table .same-objects) (c .before .before .range-of2 .ensures))),
     )
 
 returns : tie.Need-returns Inv-loop μ-loop
 returns c = λ i h. c .before .loop .inv .2 i (omega arith)
 
-pub mark-gapless-spec : {M : Type 1} → statement M
-mark-gapless-spec =
+pub measure-columns-spec : {M : Type 1} → statement M
+measure-columns-spec =
     tie.close
     (tie.spec
     Inv-loop
@@ -140,14 +145,14 @@ mark-gapless-spec =
     mul-start-2
     shared-slice-read-start
     cast-start
-    is-gapless-requires
-    mul-marks
-    element-write-marks
-    sub-is-gapless
-    is-gapless-requires-2
-    mul-marks-2
-    add-marks
-    element-write-marks-2
+    range-of-requires
+    mul-put-range
+    put-range-requires
+    sub-range-of
+    range-of-requires-2
+    mul-put-range-2
+    add-put-range
+    put-range-requires-2
     add-i
     loop-less
     loop-again
