@@ -3,6 +3,7 @@ ghost use Prim.Native.Nat.{_<_, _≤_, _+_, _*_};
 ghost use lib.ListN.{length, take, drop};
 ghost use lib.Dec.{eqb};
 ghost use Rattle.model.specs.Lists.{any, sameWords};
+ghost use Rattle.model.specs.Site.{mostPredicates};
 ghost use Rattle.model.specs.Tables.{at, semiJoin};
 ghost use Rattle.model.specs.Store.{rowsIn, tableWords};
 ghost use Rattle.tables.specs.Columns.{columnOf, kindOfColumns};
@@ -10,6 +11,7 @@ ghost use Rattle.rows.specs.Search.{Ascending};
 ghost use Rattle.checking.specs.Searching.{Searchable, rowsWith};
 ghost use Rattle.checking.specs.Ranges.{ColumnRange};
 use rows::search::has_word;
+use tables::operands::Operands;
 
 // Whether some of the n rows at `start` has a value at a column: by search in the rows where it is the subject, else in their objects'
 // sorted copy, which has a word for each row behind `first`.
@@ -55,26 +57,25 @@ fn count_words(
     kept
 }
 
-// How many of the m rows at p have, in column `own`, a value that one of the n rows at q has in column `other`. The ranges of the two
-// columns stand at a and b: by them none may have, or all; else which words are searched is decided once, before the rows.
+// How many rows a semi-join of predicate p against q leaves. By the ranges of the two columns none may be left, or all; else which words
+// are searched is decided once, before the rows.
 pub fn count_partnered(
     w: &[u32],
     objects: &[u32],
     first: usize,
     ranges: &[u32; 96],
-    a: usize,
-    b: usize,
     p: usize,
-    m: usize,
-    own: usize,
     q: usize,
-    n: usize,
-    other: usize,
+    o: Operands,
 ) -> usize
-    requires { ⌜ (p + 2 * m ≤ length (now w)) × Searchable (now w) (now objects) first q n × (own < 2) × (other < 2) ⌝ }
-    requires { ⌜ (a + 3 ≤ 96) × (b + 3 ≤ 96) × ColumnRange (now w) p m own (now ranges) a × ColumnRange (now w) q n other (now ranges) b ⌝ }
-    ensures { λ r. ⌜ r ≡ length (semiJoin (kindOfColumns own other) (rowsIn m (drop p (now (w .entry)))) (rowsIn n (drop q (now (w .entry))))) ⌝ }
+    requires { ⌜ (o .start + 2 * o .rows ≤ length (now w)) × Searchable (now w) (now objects) first (o .against) (o .partners) × (o .own < 2) × (o .other < 2) ⌝ }
+    requires { ⌜ (p < mostPredicates) × (q < mostPredicates) × ColumnRange (now w) (o .start) (o .rows) (o .own) (now ranges) (6 * p + 3 * o .own) × ColumnRange (now w) (o .against) (o .partners) (o .other) (now ranges) (6 * q + 3 * o .other) ⌝ }
+    ensures { λ r. ⌜ r ≡ length (semiJoin (kindOfColumns (o .own) (o .other)) (rowsIn (o .rows) (drop (o .start) (now (w .entry)))) (rowsIn (o .partners) (drop (o .against) (now (w .entry))))) ⌝ }
 {
+    let own = o.own;
+    let other = o.other;
+    let a = 6 * p + 3 * own;
+    let b = 6 * q + 3 * other;
     let lowest = ranges[a];
     let highest = ranges[a + 1];
     let partner_lowest = ranges[b];
@@ -86,12 +87,21 @@ pub fn count_partnered(
         return 0;
     }
     if ranges[b + 2] == 1 && partner_lowest <= lowest && highest <= partner_highest {
-        return m;
+        return o.rows;
     }
     if other == 0 {
-        return count_words(w, p, m, own, w, q, 2, n);
+        return count_words(w, o.start, o.rows, own, w, o.against, 2, o.partners);
     }
-    count_words(w, p, m, own, objects, (q - first) / 2, 1, n)
+    count_words(
+        w,
+        o.start,
+        o.rows,
+        own,
+        objects,
+        (o.against - first) / 2,
+        1,
+        o.partners,
+    )
 }
 
 // Whether the k rows at `at` are those that are left, in their order.

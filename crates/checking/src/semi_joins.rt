@@ -70,23 +70,7 @@ pub fn semi_join_end(
     if start != 0 {
         return Place::Wrong;
     }
-    let own = o.own;
-    let other = o.other;
-    let counted = count_partnered(
-        w,
-        objects,
-        first,
-        ranges,
-        6 * p + 3 * own,
-        6 * q + 3 * other,
-        o.start,
-        rows,
-        own,
-        o.against,
-        o.partners,
-        other,
-    );
-    if counted != left {
+    if count_partnered(w, objects, first, ranges, p, q, o) != left {
         return Place::Wrong;
     }
     Place::At(here)

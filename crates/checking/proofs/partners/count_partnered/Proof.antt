@@ -1,4 +1,5 @@
 -- By the ranges no row is left or all are; else the rows whose value is one of the partners' words.
+use Prim.Native.Nat.{_+_, _*_}
 use native.Mathlib.Omega.{arith}
 use native.Mathlib.Nat.{le-refl}
 use mathlib.Core.Path.{_≡_, sym, ap, _∙_}
@@ -11,6 +12,24 @@ use Rattle.checking.proofs.ColumnRanges.{none-left, all-left}
 use Rattle.checking.proofs.Partnered.{same-subjects, rows-left}
 use Rattle.checking.proofs.partners.count_partnered.Statement.{statement}
 use Rattle.checking.proofs.partners.count_partnered.Tie as tie
+
+mul-a : tie.Need-mul-a
+mul-a c = search needs
+
+mul-a-2 : tie.Need-mul-a-2
+mul-a-2 c = search needs
+
+add-a : tie.Need-add-a
+add-a c = search needs
+
+mul-b : tie.Need-mul-b
+mul-b c = search needs
+
+mul-b-2 : tie.Need-mul-b-2
+mul-b-2 c = search needs
+
+add-b : tie.Need-add-b
+add-b c = search needs
 
 mul-lowest : tie.Need-mul-lowest
 mul-lowest c = search needs
@@ -47,16 +66,18 @@ unfolding leftOf
 returns c =
     let s = c .before .before .before .before .before .before .before in
     let a = s .args in
-    sym (none-left (a .w .now) (a .ranges .now) (a .a) (a .b) (a .p) (a .m) (a .own) (a .q) (a .n) (a .other) (s .pre .0 .2) (s .pre .0 .0) (s .pre .1 .2) (s .pre .1 .3)
-    (inl (c .if1 .taken)) (a .m) (le-refl _))
+    let o = a .o in
+    sym (none-left (a .w .now) (a .ranges .now) (6 * a .p + 3 * o .own) (6 * a .q + 3 * o .other) (o .start) (o .rows) (o .own) (o .against) (o .partners) (o .other) (s .pre .0 .2) (s .pre .0 .0)
+    (s .pre .1 .2) (s .pre .1 .3) (inl (c .if1 .taken)) (o .rows) (le-refl _))
 
 returns-2 : tie.Need-returns-2
 unfolding leftOf
 returns-2 c =
     let s = c .before .before .before .before .before .before .before .before in
     let a = s .args in
-    sym (none-left (a .w .now) (a .ranges .now) (a .a) (a .b) (a .p) (a .m) (a .own) (a .q) (a .n) (a .other) (s .pre .0 .2) (s .pre .0 .0) (s .pre .1 .2) (s .pre .1 .3)
-    (inr (c .if2 .taken)) (a .m) (le-refl _))
+    let o = a .o in
+    sym (none-left (a .w .now) (a .ranges .now) (6 * a .p + 3 * o .own) (6 * a .q + 3 * o .other) (o .start) (o .rows) (o .own) (o .against) (o .partners) (o .other) (s .pre .0 .2) (s .pre .0 .0)
+    (s .pre .1 .2) (s .pre .1 .3) (inr (c .if2 .taken)) (o .rows) (le-refl _))
 
 add-if3 : tie.Need-add-if3
 add-if3 c = search needs
@@ -72,8 +93,9 @@ unfolding leftOf
 returns-3 c =
     let s = c .before .before .before .before .before .before .before .before .before .before .before .before in
     let a = s .args in
-    sym (all-left (a .w .now) (a .ranges .now) (a .a) (a .b) (a .p) (a .m) (a .own) (a .q) (a .n) (a .other) (s .pre .0 .2) (s .pre .0 .0) (s .pre .1 .2) (s .pre .1 .3)
-    (c .before .before .if3 .taken) (leb-true _ _ (c .before .if4 .taken)) (leb-true _ _ (c .if5 .taken)) (a .m) (le-refl _))
+    let o = a .o in
+    sym (all-left (a .w .now) (a .ranges .now) (6 * a .p + 3 * o .own) (6 * a .q + 3 * o .other) (o .start) (o .rows) (o .own) (o .against) (o .partners) (o .other) (s .pre .0 .2) (s .pre .0 .0)
+    (s .pre .1 .2) (s .pre .1 .3) (c .before .before .if3 .taken) (leb-true _ _ (c .before .if4 .taken)) (leb-true _ _ (c .if5 .taken)) (o .rows) (le-refl _))
 
 count-words-requires : tie.Need-count-words-requires
 count-words-requires c κs = search needs
@@ -81,26 +103,32 @@ count-words-requires c κs = search needs
 returns-4 : tie.Need-returns-4
 returns-4 c =
     let s = c .before .before .before .before .before .before .before .before .before .before .before .before in
-    rw (c .before .if6 .taken) (c .count-words .ensures ∙ ap length (rows-left _ _ _ _ (s .args .own) 0 _ _ (λ x. same-subjects _ _ _ x (s .pre .0 .1 .inside))))
+    rw (c .before .if6 .taken) (c .count-words .ensures ∙ ap length (rows-left _ _ _ _ (s .args .o .own) 0 _ _ (λ x. same-subjects _ _ _ x (s .pre .0 .1 .inside))))
 
 sub-count-words : tie.Need-sub-count-words
 sub-count-words c = search needs
 
 count-words-requires-2 : tie.Need-count-words-requires-2
 count-words-requires-2 c κs =
-    let pre = c .before .before .before .before .before .before .before .before .before .before .before .pre .0 in
+    let pre = c .before .before .before .before .before .before .before .before .before .before .before .before .pre .0 in
     (pre .0, pre .2, omega arith, omega (arith, pre .1 .copied), pre .1 .objects-ascend)
 
 returns-5 : tie.Need-returns-5
 returns-5 c =
-    let s = c .before .before .before .before .before .before .before .before .before .before .before .before in
-    let object : s .args .other ≡ 1 = omega (arith, s .pre .0 .3, c .before .if6 .left) in
-    rw object (c .count-words2 .ensures ∙ ap length (rows-left _ _ _ _ (s .args .own) 1 _ _ (s .pre .0 .1 .same-objects)))
+    let s = c .before .before .before .before .before .before .before .before .before .before .before .before .before in
+    let object : s .args .o .other ≡ 1 = omega (arith, s .pre .0 .3, c .before .before .if6 .left) in
+    rw object (c .count-words2 .ensures ∙ ap length (rows-left _ _ _ _ (s .args .o .own) 1 _ _ (s .pre .0 .1 .same-objects)))
 
 pub count-partnered-spec : {M : Type 1} → statement M
 count-partnered-spec =
     tie.close
     (tie.spec
+    mul-a
+    mul-a-2
+    add-a
+    mul-b
+    mul-b-2
+    add-b
     mul-lowest
     element-copy-out-lowest
     add-highest

@@ -147,11 +147,11 @@ compare-partnered-requires c κs =
     let known = o .operands-of .ensures .0 in
     ((known .inside, partners-searchable o, known .own-column, known .partner-column), le-trans (ltb-false _ _ (c .if4 .left)) (start o .pre .0 .6))
 
-mul-t32 : tie.Need-mul-t32
-mul-t32 c = search needs
+mul-t29 : tie.Need-mul-t29
+mul-t29 c = search needs
 
-add-t33 : tie.Need-add-t33
-add-t33 c = search needs
+add-t30 : tie.Need-add-t30
+add-t30 c = search needs
 
 returns-3 : tie.Need-returns-3
 returns-3 c =
@@ -175,34 +175,15 @@ returns-5 c =
     at-entry (test .before .before .before .before .before)
     (ends-wrong _ _ _ _ _ _ (λ j. c .if6 .taken (not-stored _ _ _ _ _ _ (sym (asked (test .before)) ∙ test .if2 .left) j)))
 
-mul-count-partnered : tie.Need-mul-count-partnered
-mul-count-partnered c = search needs
-
-mul-count-partnered-2 : tie.Need-mul-count-partnered-2
-mul-count-partnered-2 c = search needs
-
-add-count-partnered : tie.Need-add-count-partnered
-add-count-partnered c = search needs
-
-mul-count-partnered-3 : tie.Need-mul-count-partnered-3
-mul-count-partnered-3 c = search needs
-
-mul-count-partnered-4 : tie.Need-mul-count-partnered-4
-mul-count-partnered-4 c = search needs
-
-add-count-partnered-2 : tie.Need-add-count-partnered-2
-add-count-partnered-2 c = search needs
-
 count-partnered-requires : tie.Need-count-partnered-requires
 count-partnered-requires c κs =
     let o = c .before .before .before .before .before .before in
-    let known = o .operands-of .ensures .0 in
-    let tables = o .operands-of .ensures .1 in
+    let (known, tables) = o .operands-of .ensures in
     let few = few-predicates (start o .pre .0 .0) in
     let measured = start o .pre .1 .1 in
-    let own-range = range-moved (start o .args .w .now) (start o .args .ranges .now) (o .operands-of .result .own) _ (tables .start) (tables .rows) (measured (start o .args .p) (start o .pre .0 .1) (o .operands-of .result .own) (known .own-column)) in
-    let partner-range = range-moved (start o .args .w .now) (start o .args .ranges .now) (o .operands-of .result .other) _ (tables .against) (tables .partners) (measured (start o .args .q) (start o .pre .0 .2) (o .operands-of .result .other) (known .partner-column)) in
-    ((known .inside, partners-searchable o, known .own-column, known .partner-column), (omega (arith, known .own-column, start o .pre .0 .1), omega (arith, known .partner-column, start o .pre .0 .2), own-range, partner-range))
+    let own-range = range-moved (start o .args .w .now) (start o .args .ranges .now) (o .operands-of .result .own) _ (tables .start) (tables .rows) (measured (start o .args .p) (start o .pre .0 .1) _ (known .own-column)) in
+    let partner-range = range-moved (start o .args .w .now) (start o .args .ranges .now) (o .operands-of .result .other) _ (tables .against) (tables .partners) (measured (start o .args .q) (start o .pre .0 .2) _ (known .partner-column)) in
+    ((known .inside, partners-searchable o, known .own-column, known .partner-column), (omega (arith, start o .pre .0 .1), omega (arith, start o .pre .0 .2), own-range, partner-range))
 
 returns-6 : tie.Need-returns-6
 returns-6 c =
@@ -234,17 +215,11 @@ semi-join-end-spec =
     add-if4
     returns-2
     compare-partnered-requires
-    mul-t32
-    add-t33
+    mul-t29
+    add-t30
     returns-3
     returns-4
     returns-5
-    mul-count-partnered
-    mul-count-partnered-2
-    add-count-partnered
-    mul-count-partnered-3
-    mul-count-partnered-4
-    add-count-partnered-2
     count-partnered-requires
     returns-6
     returns-7)
