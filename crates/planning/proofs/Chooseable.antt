@@ -24,13 +24,13 @@ use Rattle.model.proofs.Below.{below-last}
 use Rattle.model.proofs.Partition.{proper, vp-table}
 use Rattle.model.proofs.Places.{qualifying}
 use Rattle.tables.proofs.Entries.{table-fewer}
-use Rattle.planning.specs.Members.{memberAt, patternIn, TableOf, PatternCells, PatternHolds}
+use Rattle.patterns.specs.Members.{memberAt, patternIn, TableOf, PatternCells, PatternHolds}
+use Rattle.patterns.specs.declared.pattern.Member.{Member}
+use Rattle.patterns.specs.declared.pattern.Pattern.{Pattern as Members}
+use Rattle.patterns.proofs.MemberLaws.{pattern-length, triple-member}
 use Rattle.planning.specs.Choices.{qualifiesBy, chooseableTable}
-use Rattle.planning.specs.declared.pattern.Member.{Member}
-use Rattle.planning.specs.declared.pattern.Pattern.{Pattern as Members}
 use Rattle.planning.specs.declared.choosing.Chooseable.{Chooseable}
 use Rattle.planning.specs.declared.choosing.Chooseable.the-variants.{Rows, Nothing}
-use Rattle.planning.proofs.MemberLaws.{pattern-length, triple-member}
 
 -- ---- the tables of a proper site
 

@@ -17,10 +17,10 @@ use Rattle.model.proofs.Booleans.{not-both}
 use Rattle.model.proofs.Membership.{from-keep, into-keep, keep-all, into-any, from-any, any-append, keep-append, keep-same, keep-keep}
 use Rattle.model.proofs.Below.{from-below, into-below, below-last}
 use Rattle.model.proofs.Best.{best-last}
+use Rattle.patterns.specs.Members.{memberAt, patternIn}
+use Rattle.patterns.specs.declared.pattern.Pattern.{Pattern as Members}
+use Rattle.patterns.proofs.MemberLaws.{triple-member}
 use Rattle.planning.specs.Flags.{remainingBy, someJoined, competitorsBy, beatsBy, pickBy}
-use Rattle.planning.specs.Members.{memberAt, patternIn}
-use Rattle.planning.specs.declared.pattern.Pattern.{Pattern as Members}
-use Rattle.planning.proofs.MemberLaws.{triple-member}
 
 -- ---- lists
 

@@ -1,5 +1,4 @@
 -- What the functions of this crate are held to, in terms of the definitions.
-pub mod Members
 pub mod Replies
 pub mod Choices
 pub mod Flags

@@ -1,10 +1,6 @@
-// Questions 10 to 20 of a check, and the planner.
+// The planner, and the reader of a given plan: questions 18 to 20.
 pub mod choosing;
 pub mod ordering;
-pub mod pattern;
-pub mod pattern_reader;
 pub mod plan_reader;
 pub mod planner;
-pub mod positions;
-pub mod questions;
 pub mod steps;

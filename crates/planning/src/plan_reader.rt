@@ -2,12 +2,12 @@ ghost use mathlib.Core.Path.{_≡_};
 ghost use Rattle.model.specs.PlanFile.{readPlan};
 ghost use Rattle.model.specs.Store.{decoded};
 ghost use Rattle.checking.specs.Lookups.{Passed};
-ghost use Rattle.planning.specs.Members.{patternIn, PatternHolds};
+ghost use Rattle.patterns.specs.Members.{patternIn, PatternHolds};
 ghost use Rattle.planning.specs.Replies.{PlanReadAs};
 use crate::choosing::may_choose;
-use crate::pattern::Pattern;
 use crate::steps::no_plan;
 use model::plan::Plan;
+use patterns::pattern::Pattern;
 use tables::number::Number;
 use tables::number::read_number;
 

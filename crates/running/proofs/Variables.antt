@@ -10,9 +10,9 @@ use Rattle.model.specs.Lists.{each}
 use Rattle.model.specs.Pattern.{Pattern, positions, variables, width, noTriplePattern}
 use Rattle.model.specs.declared.pattern.Position.{Position}
 use Rattle.model.proofs.Patterns.{variables-append, variables-grow}
-use Rattle.planning.specs.Members.{memberAt, patternIn, PatternCells}
-use Rattle.planning.specs.declared.pattern.Pattern.{Pattern as Members}
-use Rattle.planning.proofs.MemberLaws.{pattern-length, triple-member}
+use Rattle.patterns.specs.Members.{memberAt, patternIn, PatternCells}
+use Rattle.patterns.specs.declared.pattern.Pattern.{Pattern as Members}
+use Rattle.patterns.proofs.MemberLaws.{pattern-length, triple-member}
 
 -- a limit of a later count is one of an earlier count
 pub earlier-limit : {n most : ℕ} (xs : List Position) → variables n xs ≤ most → n ≤ most

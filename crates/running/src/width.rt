@@ -1,10 +1,10 @@
 ghost use mathlib.Core.Path.{_≡_};
 ghost use Prim.Native.Nat.{_≤_};
 ghost use Rattle.model.specs.Pattern.{mostVariables, positions, variables, width};
-ghost use Rattle.planning.specs.Members.{patternIn, PatternCells};
+ghost use Rattle.patterns.specs.Members.{patternIn, PatternCells};
 use model::pattern::TriplePattern;
-use planning::pattern::Pattern;
-use planning::positions::variables_with;
+use patterns::pattern::Pattern;
+use patterns::positions::variables_with;
 
 // How many variables there are with one triple pattern more, `met` before it.
 fn variables_in(met: u32, triple: TriplePattern) -> u32

@@ -5,9 +5,9 @@ use mathlib.Core.Path.{_∙_}
 use mathlib.Core.Logic.{⊎-elim}
 use borrow.Author.Needs.{needs}
 use Rattle.model.specs.Store.{decoded}
-use Rattle.planning.specs.Members.{patternIn}
 use Rattle.checking.proofs.Lookups.{passed-site}
-use Rattle.planning.proofs.MemberLaws.{pattern-length}
+use Rattle.patterns.specs.Members.{patternIn}
+use Rattle.patterns.proofs.MemberLaws.{pattern-length}
 use Rattle.planning.proofs.Chooseable.{full-rows, BestTo, best-none, best-all, best-better, best-kept, best-closed}
 use Rattle.planning.proofs.choosing.choose_table.Statement.{statement}
 use Rattle.planning.proofs.choosing.choose_table.Tie as tie

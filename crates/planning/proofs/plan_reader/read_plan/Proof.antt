@@ -19,9 +19,9 @@ use Rattle.model.specs.Calls.{planNumbers}
 use Rattle.model.proofs.Readers.{PartRead, none-read, all-read, next-refused, next-read}
 use Rattle.tables.specs.NumberAt.{numberAt}
 use Rattle.tables.specs.declared.number.Number.the-variants.{Value}
-use Rattle.planning.specs.Members.{patternIn}
-use Rattle.planning.specs.declared.pattern.Pattern.{Pattern as Members}
-use Rattle.planning.proofs.MemberLaws.{pattern-length}
+use Rattle.patterns.specs.Members.{patternIn}
+use Rattle.patterns.specs.declared.pattern.Pattern.{Pattern as Members}
+use Rattle.patterns.proofs.MemberLaws.{pattern-length}
 use Rattle.planning.proofs.PlanReading.{isOpen, place-absent, place-taken, place-open, no-place, place-refused, no-choice, choice-refused, step-given}
 use Rattle.planning.proofs.PlanReading.{steps-refused, bytes-left, plan-given, choice-small, place-noted, step-written}
 use Rattle.planning.proofs.plan_reader.read_plan.Statement.{statement}

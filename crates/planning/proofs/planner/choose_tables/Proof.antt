@@ -8,9 +8,9 @@ use Rattle.model.specs.Lists.{keep}
 use Rattle.model.specs.Store.{decoded}
 use Rattle.model.specs.Pattern.{positions}
 use Rattle.model.specs.Planner.{isFixed}
-use Rattle.planning.specs.Members.{patternIn}
+use Rattle.patterns.specs.Members.{patternIn}
+use Rattle.patterns.proofs.MemberLaws.{triple-member}
 use Rattle.planning.specs.Choices.{TablesChosen}
-use Rattle.planning.proofs.MemberLaws.{triple-member}
 use Rattle.planning.proofs.OrderSteps.{none-chosen, chosen-more}
 use Rattle.planning.proofs.planner.choose_tables.Statement.{statement}
 use Rattle.planning.proofs.planner.choose_tables.Tie as tie

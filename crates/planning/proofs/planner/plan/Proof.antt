@@ -1,7 +1,7 @@
 -- Each return by what was read: a refusal, or a pattern.
 use mathlib.Core.Path.{sym, _∙_}
 use borrow.Author.Needs.{needs}
-use Rattle.planning.proofs.CheckReplies.{check-refused, check-given, plan-refused, plan-given}
+use Rattle.patterns.proofs.CheckReplies.{check-refused, check-given, plan-refused, plan-given}
 use Rattle.planning.proofs.planner.plan.Statement.{statement}
 use Rattle.planning.proofs.planner.plan.Tie as tie
 

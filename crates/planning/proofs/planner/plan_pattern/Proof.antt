@@ -13,9 +13,9 @@ use Rattle.model.specs.Pattern.{mostTriplePatterns}
 use Rattle.model.specs.Planner.{isJoined}
 use Rattle.model.specs.Calls.{planNumbers}
 use Rattle.model.proofs.Choosing.{chosen-table}
-use Rattle.planning.specs.Members.{patternIn}
-use Rattle.planning.specs.declared.pattern.Pattern.{Pattern as Members}
-use Rattle.planning.proofs.MemberLaws.{pattern-length}
+use Rattle.patterns.specs.Members.{patternIn}
+use Rattle.patterns.specs.declared.pattern.Pattern.{Pattern as Members}
+use Rattle.patterns.proofs.MemberLaws.{pattern-length}
 use Rattle.planning.proofs.PlanReading.{choice-small, place-noted}
 use Rattle.planning.proofs.OrderSteps.{joins-more, Begun, stepAt, begun-none, begun-more, begun-inside, place-written, plan-written}
 use Rattle.planning.proofs.planner.plan_pattern.Statement.{statement}

@@ -2,8 +2,8 @@
 use Prim.Native.Nat.{_-_}
 use native.Mathlib.Omega.{arith}
 use borrow.Author.Needs.{needs}
-use Rattle.planning.specs.Members.{patternIn}
-use Rattle.planning.proofs.MemberLaws.{pattern-length}
+use Rattle.patterns.specs.Members.{patternIn}
+use Rattle.patterns.proofs.MemberLaws.{pattern-length}
 use Rattle.running.proofs.Variables.{earlier-limit, Counted, none-counted, one-counted, all-counted}
 use Rattle.running.proofs.width.width_of.Statement.{statement}
 use Rattle.running.proofs.width.width_of.Tie as tie

@@ -1,0 +1,167 @@
+-- The pattern's file as the code reads it: one triple pattern behind the others, what the code holds of them, and each way out of the file.
+use Prim.Native.Nat.{ℕ, _+_, _<_, _≤_}
+use native.Mathlib.Numerals.{add-one}
+use native.Mathlib.Omega.{arith}
+use mathlib.Core.Path.{_≡_, refl, sym, ap, _∙_, subst}
+use mathlib.Core.Bool.{Bool, true, false}
+use mathlib.Core.List.{List, [], _∷_, _++_, map-append}
+use lib.ListN.{length, getD, take, drop, set, length-set, drop-of-length-le}
+use lib.Seq.{drop-cons, take-suc-set, getD-set-same, getD-set-other}
+use lib.Dec.{eqb}
+use borrow.Author.Tests.{eqb-true, eqb-false}
+use Rattle.model.specs.Lists.{each}
+use Rattle.model.specs.Reader.{Reply, refused, gives, after, ask, repeated, wholeFile}
+use Rattle.model.specs.Site.{Site}
+use Rattle.model.specs.Pattern.{Pattern, mostTriplePatterns, mostVariables, positions, variables, width, isPatternLength}
+use Rattle.model.specs.PatternFile.{triplePattern, patternFile, readPattern}
+use Rattle.model.specs.declared.pattern.TriplePattern.{TriplePattern}
+use Rattle.model.proofs.Blocks.{each-append}
+use Rattle.model.proofs.Readers.{PartRead, none-read, all-read, next-refused, next-read}
+use Rattle.model.proofs.Patterns.{variables-append, triple-limit}
+use Rattle.model.proofs.PatternFile.{triple-reads}
+use Rattle.model.proofs.Refusals.{pattern-refuses}
+use Rattle.tables.specs.NumberAt.{numberAt}
+use Rattle.tables.specs.declared.number.Number.the-variants.{Value, Bad}
+use Rattle.tables.proofs.NumberReplies.{number-bad, number-value}
+use Rattle.patterns.specs.Members.{noMember, patternIn, TableOf, PatternHolds}
+use Rattle.patterns.specs.Replies.{MemberReadAs, MemberReadOf, PatternReadAs}
+use Rattle.patterns.specs.declared.pattern.Member.{Member}
+use Rattle.patterns.specs.declared.pattern.Pattern.{Pattern as Members}
+use Rattle.patterns.specs.declared.pattern_reader.MemberRead.{MemberRead}
+use Rattle.patterns.specs.declared.pattern_reader.MemberRead.the-variants.{Member as MemberGiven, Refused}
+use Rattle.patterns.specs.declared.pattern_reader.PatternRead.{PatternRead}
+use Rattle.patterns.proofs.MemberLaws.{pattern-length}
+
+-- ---- a triple pattern as the code has it
+
+gives-same : {q q′ : TriplePattern} {rest rest′ : List ℕ} → q ≡ q′ → rest ≡ rest′
+    → _≡_ {A = Reply (TriplePattern × List ℕ)} (gives (q, rest)) (gives (q′, rest′))
+gives-same p e = rw (p, e) refl
+
+module _ (site : Site) (met : ℕ) (s : List ℕ) {r : MemberRead} where
+  was-refused : (reply : Reply (TriplePattern × List ℕ)) {m : ℕ} → MemberReadAs site met reply s r → r ≡ Refused m → reply ≡ refused m
+  was-refused (refused n) t e = cc
+  was-refused (gives x) t e = cc
+
+  was-given : (reply : Reply (TriplePattern × List ℕ)) {member : Member} {count next : ℕ} → MemberReadAs site met reply s r
+      → r ≡ MemberGiven member count next
+      → (reply ≡ gives (member .triple, drop next s)) × (count ≡ variables met (positions (member .triple))) × TableOf site member
+  was-given (refused n) t e = let z : _≡_ {A = ℕ} 0 1 = cc in absurd (omega arith)
+  was-given (gives x) {member} {count} {next} t e =
+      let same : t .0 ≡ member = cc in
+      let place : t .1 ≡ next = cc in
+      let total : count ≡ variables met (positions (x .0)) = cc in
+      let triple : x .0 ≡ member .triple = sym (t .4) ∙ ap (λ (m : Member). m .triple) same in
+      let rest : x .1 ≡ drop next s = t .3 ∙ ap (λ (k : ℕ). drop k s) place in
+      (gives-same triple rest, total ∙ ap (λ (q : TriplePattern). variables met (positions q)) triple, subst (TableOf site) same (t .5))
+
+-- ---- the triple patterns, read one by one
+
+-- the first i cells of an array
+abbrev pub upTo : List Member → ℕ → Members
+upTo members i = record { members = members; count = i }
+
+-- of n triple patterns, i were read, they stand in the array, and they have `met` variables
+pub record MembersRead (site : Site) (n : ℕ) (bytes s : List ℕ) (members : List Member) (met next i : ℕ) : Type 0 where
+  pub most : n ≤ mostTriplePatterns
+  pub size : length members ≡ mostTriplePatterns
+  pub part : PartRead (triplePattern site) n bytes (patternIn (upTo members i)) (drop next s)
+  pub holds : PatternHolds site (upTo members i)
+  pub counted : met ≡ width (patternIn (upTo members i))
+  pub few : met ≤ mostVariables
+
+-- one triple pattern more
+width-snoc : (done : Pattern) (q : TriplePattern) → width (done ++ q ∷ []) ≡ variables (width done) (positions q)
+unfolding width
+width-snoc done q = ap (variables 0) (each-append positions done (q ∷ [])) ∙ variables-append 0 (each positions done) (positions q)
+
+members-snoc : (members : List Member) (i : ℕ) (m : Member) → i < length members
+    → patternIn (upTo (set members i m) (i + 1)) ≡ patternIn (upTo members i) ++ m .triple ∷ []
+members-snoc members i m h = rw (add-one, take-suc-set members i m h) (map-append (λ (m : Member). m .triple) (take i members) (m ∷ []))
+
+pub no-member-read : {site : Site} {n at : ℕ} {s : List ℕ} {members : List Member} → n ≤ mostTriplePatterns → length members ≡ mostTriplePatterns
+    → MembersRead site n (drop at s) s members 0 at 0
+unfolding width variables
+no-member-read h e = record {
+  most = h;
+  size = e;
+  part = none-read;
+  holds = record { counted = record { few = omega arith; cells = omega arith }; tables = λ i k. absurd (omega arith) };
+  counted = refl;
+  few = omega arith;
+}
+
+module _ {site : Site} {n : ℕ} {bytes s : List ℕ} {members : List Member} {met next i : ℕ} (v : MembersRead site n bytes s members met next i) where
+  pub every-member : n ≤ i → repeated (triplePattern site) n [] bytes ≡ gives (patternIn (upTo members i), drop next s)
+  every-member h = all-read (v .part) (rw (pattern-length (v .holds .counted)) h)
+
+  module _ (more : i < n) where
+    one-left : length (patternIn (upTo members i)) < n
+    one-left = rw (pattern-length (v .holds .counted)) more
+
+    module _ {r : MemberRead} (read : MemberReadOf site met next s r) where
+      pub next-member-refused : {m : ℕ} → r ≡ Refused m → repeated (triplePattern site) n [] bytes ≡ refused m
+      next-member-refused e = next-refused (v .part) one-left (was-refused site met s _ (read _ (sym (v .counted))) e)
+
+      pub next-member-read : {member : Member} {count after : ℕ} → r ≡ MemberGiven member count after
+          → MembersRead site n bytes s (set members i member) count after (i + 1)
+      next-member-read {member} {count} {after} e =
+          let done = patternIn (upTo members i) in
+          let grown = members-snoc members i member (omega (arith, v .most, v .size)) in
+          let (given, total, table) = was-given site met s _ (read done (sym (v .counted))) e in
+          let passes = triple-reads site .read done (drop next s) given .0 in
+          record {
+            most = v .most;
+            size = length-set members i member ∙ v .size;
+            part = rw grown (next-read (v .part) one-left given);
+            holds = record {
+              counted = record { few = omega (arith, v .most); cells = rw length-set (omega (arith, v .most, v .size)) };
+              tables = λ j h. go table j h (eqb j i) refl;
+            };
+            counted = rw (grown, width-snoc, ← v .counted) total;
+            few = rw total (triple-limit site met (member .triple) (rw (v .counted) passes) (v .few));
+          }
+        where
+          go : TableOf site member → (j : ℕ) → j < i + 1 → (b : Bool) → eqb j i ≡ b → TableOf site (getD (set members i member) j noMember)
+          go table j h true e = rw (eqb-true j i e, getD-set-same members i member noMember (omega (arith, v .most, v .size))) table
+          go table j h false e =
+              let other = eqb-false j i e in
+              rw (getD-set-other members i j member noMember other) (v .holds .tables j (omega arith))
+
+-- ---- the ways out of the file
+
+module _ (site : Site) (s : List ℕ) where
+  pub no-count : numberAt s 0 ≡ Bad → readPattern site s ≡ refused 11
+  unfolding readPattern wholeFile patternFile after
+  no-count e = rw (number-bad 11 s 0 e) refl
+
+  module _ {n at : ℕ} (e : numberAt s 0 ≡ Value n at) where
+    pub count-refused : isPatternLength n ≡ false → readPattern site s ≡ refused 12
+    unfolding readPattern wholeFile patternFile after ask
+    count-refused t = rw (number-value 11 s 0 e, t) refl
+
+    module _ (t : isPatternLength n ≡ true) where
+      pub triples-refused : {m : ℕ} → repeated (triplePattern site) n [] (drop at s) ≡ refused m → readPattern site s ≡ refused m
+      unfolding readPattern wholeFile patternFile after ask
+      triples-refused q = rw (number-value 11 s 0 e, t, q) refl
+
+      module _ {pattern : Pattern} (next : ℕ) (q : repeated (triplePattern site) n [] (drop at s) ≡ gives (pattern, drop next s)) where
+        pub bytes-left : next < length s → readPattern site s ≡ refused 17
+        unfolding readPattern wholeFile patternFile after ask
+        bytes-left h = rw (number-value 11 s 0 e, t, q, drop-cons s next 0 h) refl
+
+        pub pattern-given : length s ≤ next → readPattern site s ≡ gives pattern
+        unfolding readPattern wholeFile patternFile after ask
+        pattern-given h = rw (number-value 11 s 0 e, t, q, drop-of-length-le s h) refl
+
+  -- ---- what the code returns
+
+  pub returns-refusal : (r : PatternRead) {m : ℕ} → readPattern site s ≡ refused m → r .refusal ≡ m → PatternReadAs site (readPattern site s) r
+  returns-refusal r {m} e q = let between = pattern-refuses site s .number-between m e in rw e (q, omega (arith, between .0))
+
+  pub returns-pattern : {n at met next i : ℕ} {members : List Member} → numberAt s 0 ≡ Value n at → isPatternLength n ≡ true
+      → MembersRead site n (drop at s) s members met next i → n ≤ i → length s ≤ next
+      → PatternReadAs site (readPattern site s) (record { refusal = 0; pattern = upTo members n })
+  returns-pattern {n} {i} {members} e t v h k =
+      let all : n ≡ i = omega (arith, v .part .count, pattern-length (v .holds .counted)) in
+      rw (pattern-given e t _ (every-member v h) k) (refl, rw all (v .holds), ap (λ (j : ℕ). patternIn (upTo members j)) all)

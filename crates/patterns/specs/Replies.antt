@@ -1,0 +1,42 @@
+-- What was read of a check, as the code has it.
+use Prim.Native.Nat.{ℕ, zero, suc, _<_}
+use mathlib.Core.Path.{_≡_}
+use mathlib.Core.List.{List}
+use lib.ListN.{drop}
+use Rattle.model.specs.Reader.{Reply, refused, gives, Reader}
+use Rattle.model.specs.Site.{Site}
+use Rattle.model.specs.Store.{storeOf}
+use Rattle.model.specs.Pattern.{Pattern, positions, variables, width}
+use Rattle.model.specs.PatternFile.{triplePattern, readPattern}
+use Rattle.model.specs.Calls.{either, storeReply}
+use Rattle.model.specs.declared.pattern.TriplePattern.{TriplePattern}
+use Rattle.patterns.specs.Members.{patternIn, TableOf, PatternHolds}
+use Rattle.patterns.specs.declared.pattern.Member.{Member}
+use Rattle.patterns.specs.declared.pattern_reader.MemberRead.{MemberRead}
+use Rattle.patterns.specs.declared.pattern_reader.MemberRead.the-variants.{Member as MemberGiven, Refused}
+use Rattle.patterns.specs.declared.pattern_reader.PatternRead.{PatternRead}
+
+-- a question that was asked: 0 where it passed, or the refusal's number
+abbrev pub replied : ℕ → Reader (Unit {0})
+replied zero = λ bytes. gives (tt, bytes)
+replied (suc n) = λ bytes. refused (suc n)
+
+-- a triple pattern, n variables before it
+abbrev pub MemberReadAs : Site → ℕ → Reply (TriplePattern × List ℕ) → List ℕ → MemberRead → Type 0
+MemberReadAs site n (refused m) s r = r ≡ Refused m
+MemberReadAs site n (gives x) s r =
+    (member : Member) × (next : ℕ) × (r ≡ MemberGiven member (variables n (positions (x .0))) next)
+    × (x .1 ≡ drop next s) × (member .triple ≡ x .0) × TableOf site member
+
+-- the triple pattern at a place of the bytes, behind any that have n variables
+abbrev pub MemberReadOf : Site → ℕ → ℕ → List ℕ → MemberRead → Type 0
+MemberReadOf site n at s r = (done : Pattern) → width done ≡ n → MemberReadAs site n (triplePattern site done (drop at s)) s r
+
+-- a pattern; a refusal's number is not 0
+abbrev pub PatternReadAs : Site → Reply Pattern → PatternRead → Type 0
+PatternReadAs site (refused n) r = (r .refusal ≡ n) × (0 < n)
+PatternReadAs site (gives pattern) r = (r .refusal ≡ 0) × PatternHolds site (r .pattern) × (patternIn (r .pattern) ≡ pattern)
+
+-- questions 10 to 17
+abbrev pub checkReply : List ℕ → List ℕ → Reply Pattern
+checkReply words bytes = either refused (storeReply (storeOf words)) (λ store. readPattern (store .site) bytes)
