@@ -1,8 +1,8 @@
 /* Times each call of the archive beside plain C, three ways, and beside SQLite, on the sites and checks of shops.c. Prints a
  * line for each call, site and check, its columns apart by tabs:
  *   call, site, rows of the site, check, triple patterns, rows of the answer (-1 for none by refusal 21), then for each engine (ours, plain C
- *   by search, by scan and at its best, SQLite, SQLite with its check) the median and the two quartiles in nanoseconds; 0 where an engine has
- *   no such call.
+ *   by the same algorithm, by the one before it and at its best, SQLite, SQLite with its check) the median and the two quartiles in
+ *   nanoseconds; 0 where an engine has no such call.
  * `measure --inputs` prints the sites and the checks in hexadecimal and times nothing.
  * All engines run in one process; their repeats are interleaved, so that what slows the machine slows them alike. */
 #define _POSIX_C_SOURCE 199309L
