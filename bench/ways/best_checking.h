@@ -1,0 +1,229 @@
+/* The best C: question 10 by bits. Included by plain.c. */
+
+/* The lowest and the highest term of a table's subjects or objects, and whether no term between them is known to be missing. */
+struct column { uint32_t low, high; bool gapless; };
+
+/* Whether the rows hold terms and ascend, and their two columns; nothing is decided row by row, so that rows go side by side. */
+static bool read_columns(const uint32_t *row, size_t n, struct column *columns) {
+    columns[0] = columns[1] = (struct column){MOST_TERM + 1, 0, false};
+    if (n == 0) return true;
+    uint32_t all = row[0] | row[1], falls = 0, gaps = 0;
+    int32_t low = (int32_t)row[1], high = low;
+    for (size_t i = 2; i < 2 * n; i += 2) {
+        const uint32_t subject = row[i], object = row[i + 1];
+        all |= subject | object;
+        low = (int32_t)object < low ? (int32_t)object : low;
+        high = (int32_t)object > high ? (int32_t)object : high;
+        falls |= (row[i - 2] << 16 | row[i - 1]) >= (subject << 16 | object);
+        gaps |= (int32_t)(subject - row[i - 2]) > 1;
+    }
+    columns[0] = (struct column){row[0], row[2 * n - 2], gaps == 0};
+    columns[1] = (struct column){(uint32_t)low, (uint32_t)high, false};
+    return all <= MOST_TERM && falls == 0;
+}
+
+/* A bit for each term from `base` on: those that a column has. As many words as the engine has for the objects; a column that spans more
+ * terms is asked twice. The bit behind the last stays clear, for terms that are outside. Words are cleared once in a call, and then where
+ * bits were set. */
+struct window { const uint32_t *held; size_t n, cleared; uint32_t base, size, bits[MOST_ROWS + 1]; };
+enum { WINDOW_TERMS = 32 * MOST_ROWS };
+
+static void forget(struct window *window) {
+    const uint32_t base = window->base, size = window->size, *held = window->held;
+    for (const uint32_t *end = held + 2 * window->n; held != end; held += 2)
+        if (*held - base < size) window->bits[(*held - base) / 32] = 0;
+    window->n = 0;
+}
+
+/* The column's terms from `base` on; gives how many there are. */
+static uint32_t hold(struct window *window, const uint32_t *column, size_t n, uint32_t base, uint32_t high) {
+    const uint32_t size = high - base < WINDOW_TERMS ? high - base + 1 : WINDOW_TERMS, words = size / 32 + 1;
+    uint32_t terms = 0;
+    forget(window);
+    window->held = column;
+    window->n = n;
+    window->base = base;
+    window->size = size;
+    if (window->cleared < words) {
+        memset(window->bits + window->cleared, 0, (words - window->cleared) * sizeof *window->bits);
+        window->cleared = words;
+    }
+    for (size_t i = 0; i < n; i++) {
+        const uint32_t at = column[2 * i] - base;
+        if (at >= size) continue;
+        uint32_t *word = &window->bits[at / 32];
+        terms += (*word >> at % 32 & 1) ^ 1;
+        *word |= 1u << at % 32;
+    }
+    return terms;
+}
+
+/* Whether each stored row is one of the rows, in their order. */
+static bool are_among(const uint32_t *stored, size_t left, const uint32_t *row, size_t n) {
+    const uint32_t *const end = stored + 2 * left;
+    for (size_t i = 0; i < n && stored != end; i++, row += 2) stored += 2 * (size_t)((stored[0] == row[0]) & (stored[1] == row[1]));
+    return stored == end;
+}
+
+/* Rows whose subject is between two terms stand in a row. */
+static bool holds_between(const uint32_t *store, const uint32_t *entry, const uint32_t *rows, size_t n, struct column of) {
+    const size_t first = first_not_below(rows, 2, n, of.low), end = rows[2 * n - 2] <= of.high ? n : first_not_below(rows, 2, n, of.high + 1);
+    return end - first == entry[0] && (entry[1] == 0 || memcmp(store + entry[1], rows + 2 * first, 2 * entry[0] * sizeof *rows) == 0);
+}
+
+/* A column of n rows: every other word. */
+struct words { const uint32_t *first; size_t n; };
+
+static uint32_t count_held(const struct window *window, struct words column) {
+    const uint32_t base = window->base, size = window->size;
+    uint32_t kept = 0;
+    for (size_t i = 0; i < column.n; i++) {
+        uint32_t at = column.first[2 * i] - base;
+        at = at < size ? at : size;
+        kept += window->bits[at / 32] >> at % 32 & 1;
+    }
+    return kept;
+}
+
+static uint32_t count_between(struct words column, uint32_t low, uint32_t high) {
+    uint32_t kept = 0;
+    for (size_t i = 0; i < column.n; i++) kept += column.first[2 * i] - low <= high - low;
+    return kept;
+}
+
+/* Few partners are compared one by one. */
+static uint32_t count_equal(struct words column, struct words partners) {
+    uint32_t kept = 0;
+    for (size_t i = 0; i < column.n; i++) {
+        uint32_t is_kept = 0;
+        for (size_t j = 0; j < partners.n; j++) is_kept |= column.first[2 * i] == partners.first[2 * j];
+        kept += is_kept;
+    }
+    return kept;
+}
+
+/* A semi-join that the lowest and highest terms left open: its entry, its rows and the stored ones, the column of both that is asked. */
+struct asked { const uint32_t *entry, *rows, *stored; size_t n, own; };
+
+static struct asked asked_of(const uint32_t *store, size_t count, size_t at, size_t q, size_t other) {
+    const size_t p = at / 2, own = at % 2;
+    const uint32_t *table = store + 3 + 3 * p, *entry = store + 3 + 3 * count + 2 * ((p * count + q) * KINDS + own + 2 * other);
+    return (struct asked){entry, store + table[2], store + entry[1], table[1], own};
+}
+
+static struct words rows_asked(const struct asked *asked) { return (struct words){asked->rows + asked->own, asked->n}; }
+
+/* No words where no rows are stored. */
+static struct words stored_asked(const struct asked *asked) {
+    return (struct words){asked->stored + asked->own, asked->entry[1] == 0 ? 0 : asked->entry[0]};
+}
+
+/* Of the rows and of the stored ones so many have a partner: the entry says so, and the stored rows are those. */
+static bool is_answered(const struct asked *asked, uint32_t kept, uint32_t stored_kept) {
+    if (kept != asked->entry[0]) return false;
+    return asked->entry[1] == 0 || (stored_kept == kept && are_among(asked->stored, kept, asked->rows, asked->n));
+}
+
+/* The partners have every term between their lowest and highest. */
+static bool is_answered_between(const uint32_t *store, const struct asked *asked, struct column of) {
+    if (asked->own == 0) return holds_between(store, asked->entry, asked->rows, asked->n, of);
+    return is_answered(asked, count_between(rows_asked(asked), of.low, of.high), count_between(stored_asked(asked), of.low, of.high));
+}
+
+static bool is_answered_few(const struct asked *asked, struct words partners) {
+    return is_answered(asked, count_equal(rows_asked(asked), partners), count_equal(stored_asked(asked), partners));
+}
+
+/* The same with all the partners' terms in the window, row by row: the stored rows are walked with those that have a partner. */
+static bool is_answered_held(const struct asked *asked, const struct window *window) {
+    if (asked->entry[1] == 0) return count_held(window, rows_asked(asked)) == asked->entry[0];
+    const uint32_t base = window->base, size = window->size, left = asked->entry[0];
+    uint32_t kept = 0, differs = 0;
+    for (const uint32_t *row = asked->rows, *end = row + 2 * asked->n; row != end; row += 2) {
+        uint32_t at = row[asked->own] - base;
+        at = at < size ? at : size;
+        const uint32_t is_kept = window->bits[at / 32] >> at % 32 & 1, *stored = asked->stored + 2 * (kept < left ? kept : 0);
+        differs |= is_kept & (uint32_t)((stored[0] != row[0]) | (stored[1] != row[1]));
+        kept += is_kept;
+    }
+    return kept == left && differs == 0;
+}
+
+/* The semi-joins against a column of so many terms that they are asked in two windows; a bit 2p + own for each that is open. */
+static bool answered_by_windows(const uint32_t *store, size_t count, size_t q, size_t other, struct column of, uint32_t open, struct window *window) {
+    uint32_t kept[2 * MOST_PREDICATES] = {0}, stored_kept[2 * MOST_PREDICATES] = {0};
+    const uint32_t *table = store + 3 + 3 * q;
+    for (uint32_t base = of.low; base <= of.high; base += WINDOW_TERMS) {
+        hold(window, store + table[2] + other, table[1], base, of.high);
+        for (size_t at = 0; at < 2 * count; at++) {
+            if ((open >> at & 1) == 0) continue;
+            const struct asked asked = asked_of(store, count, at, q, other);
+            kept[at] += count_held(window, rows_asked(&asked));
+            stored_kept[at] += count_held(window, stored_asked(&asked));
+        }
+    }
+    for (size_t at = 0; at < 2 * count; at++) {
+        const struct asked asked = asked_of(store, count, at, q, other);
+        if ((open >> at & 1) != 0 && !is_answered(&asked, kept[at], stored_kept[at])) return false;
+    }
+    return true;
+}
+
+/* The semi-joins against one column that are open. */
+static bool open_hold(const uint32_t *store, size_t count, size_t q, size_t other, struct column of, uint32_t open, struct window *window) {
+    enum { FEW = 8 };
+    const uint32_t *table = store + 3 + 3 * q;
+    const struct words partners = {store + table[2] + other, table[1]};
+    /* only so many rows can have every term between */
+    if (!of.gapless && partners.n > FEW && of.high - of.low < partners.n)
+        of.gapless = hold(window, partners.first, partners.n, of.low, of.high) == of.high - of.low + 1;
+    else if (!of.gapless && partners.n > FEW) {
+        if (of.high - of.low >= WINDOW_TERMS) return answered_by_windows(store, count, q, other, of, open, window);
+        hold(window, partners.first, partners.n, of.low, of.high);
+    }
+    for (size_t at = 0; at < 2 * count; at++) {
+        if ((open >> at & 1) == 0) continue;
+        const struct asked asked = asked_of(store, count, at, q, other);
+        const bool holds = of.gapless         ? is_answered_between(store, &asked, of)
+                           : partners.n > FEW ? is_answered_held(&asked, window)
+                                              : is_answered_few(&asked, partners);
+        if (!holds) return false;
+    }
+    return true;
+}
+
+/* The entries of all semi-joins, by the lowest and highest terms; what they leave open is marked at the partners' column. */
+static bool entries_hold(const uint32_t *store, size_t count, const struct column *columns, size_t here, size_t used, uint32_t *open) {
+    const uint32_t *entry = store + 3 + 3 * count, t = store[1];
+    for (size_t p = 0; p < count; p++) {
+        const uint32_t rows = store[3 + 3 * p + 1];
+        for (size_t q = 0; q < count; q++)
+            for (size_t k = 0; k < KINDS; k++, entry += 2) {
+                const size_t own = 2 * p + own_column[k], other = 2 * q + partner_column[k];
+                const struct column a = columns[own], b = columns[other];
+                if (entry[0] > rows || entry[1] != (is_stored(t, entry[0], rows) ? here : 0)) return false;
+                if (entry[1] != 0) here += 2 * entry[0];
+                if (a.high < b.low || b.high < a.low) {
+                    if (entry[0] != 0) return false;
+                } else if (own == other || (b.gapless && b.low <= a.low && a.high <= b.high)) {
+                    if (entry[0] != rows) return false;
+                } else
+                    open[other] |= 1u << own;
+            }
+    }
+    return here == used;
+}
+
+static bool site_holds(const uint32_t *store, size_t count, size_t here, size_t used) {
+    struct column columns[2 * MOST_PREDICATES];
+    uint32_t open[2 * MOST_PREDICATES] = {0};
+    struct window window;
+    window.held = store;
+    window.n = window.cleared = window.base = window.size = 0;
+    for (size_t i = 0; i < count; i++)
+        if (!read_columns(store + store[3 + 3 * i + 2], store[3 + 3 * i + 1], columns + 2 * i)) return false;
+    if (!entries_hold(store, count, columns, here, used, open)) return false;
+    for (size_t i = 0; i < 2 * count; i++)
+        if (open[i] != 0 && !open_hold(store, count, i / 2, i % 2, columns[i], open[i], &window)) return false;
+    return true;
+}
