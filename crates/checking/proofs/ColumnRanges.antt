@@ -5,22 +5,23 @@ use native.Mathlib.Nat.{le-of-suc-le-suc, lt-of-not-le}
 use native.Mathlib.Numerals.{add-one}
 use mathlib.Core.Path.{_≡_, refl, sym, ap, _∙_}
 use mathlib.Core.Logic.{_⊎_, inl, inr, ⊎-elim}
-use mathlib.Core.Bool.{Bool, true, false, false≢true}
+use mathlib.Core.Bool.{Bool, true, false, false≢true, _||_, or-false}
 use mathlib.Core.List.{List}
 use lib.ListN.{length, getD, set, length-append, length-set}
 use lib.Seq.{getD-set-same, getD-set-other}
-use lib.Dec.{ltb, leb}
+use lib.Dec.{eqb, ltb, leb}
 use borrow.Author.Count.{below-more}
-use borrow.Author.Tests.{ltb-true, ltb-false, leb-true, le-leb}
+use borrow.Author.Tests.{ltb-true, ltb-false, leb-true, le-leb, eqb-true, eqb-false, eq-eqb}
 use Rattle.model.specs.Lists.{below}
 use Rattle.model.specs.Tables.{semiJoin}
-use Rattle.model.proofs.Booleans.{not-both, to-false}
-use Rattle.model.proofs.Membership.{from-all, into-all}
+use Rattle.model.proofs.Booleans.{not-both, to-false, or-cases, or-left, or-right}
+use Rattle.model.proofs.Membership.{from-all, into-all, any-append}
 use Rattle.model.proofs.Below.{from-below, into-below}
 use Rattle.rows.specs.Search.{wordAt, Ascending, hasWord}
 use Rattle.rows.proofs.WordSearch.{word-found, before-first, behind-last}
+use Rattle.tables.proofs.Rows.{rows-at}
 use Rattle.tables.proofs.Partners.{hasPartner, partner-found, leftOf, row-left, row-not-left}
-use Rattle.checking.specs.Ranges.{isGapless, RangeOf, hasValue, ColumnRange, AllMeasured}
+use Rattle.checking.specs.Ranges.{isGapless, RangeOf, hasValue, ColumnRange, AllMeasured, apart}
 use Rattle.checking.proofs.Partnered.{partner-of-value}
 
 -- ---- words without gaps
@@ -77,7 +78,7 @@ module _ (words : List ℕ) (base stride : ℕ) where
 -- of no words the empty one
 pub no-range : (words : List ℕ) (base stride : ℕ) → RangeOf (hasWord words base stride 0) 1 0 0
 unfolding hasWord
-no-range words base stride = record { between = λ x e. absurd (false≢true e); gapless = λ e. absurd (omega arith) }
+no-range words base stride = record { between = λ x e. absurd (false≢true e); attained = λ l. absurd (omega arith); gapless = λ e. absurd (omega arith) }
 
 -- ascending words are between the first and the last
 pub range : (words : List ℕ) (base stride n whole : ℕ) → Ascending words base stride n → 0 < n → (whole ≡ 1 → isGapless words base stride n ≡ true)
@@ -89,15 +90,79 @@ range words base stride n whole ascending some gapless =
         le-of-suc-le-suc (lt-of-not-le (λ l. not-both e (sym (before-first words base stride ascending l)))),
         le-of-suc-le-suc (lt-of-not-le (λ l. not-both e (sym (behind-last words base stride ascending l)))),
       );
+      attained = λ l. (sym (word-found words base stride 0 some first), sym (word-found words base stride (n - 1) (omega arith) refl));
       gapless = λ e x low high. has-between words base stride n x (gapless e) some (omega (arith, first)) high;
     }
 
 -- the range of a test is that of a test that agrees
 pub range-same : {p q : ℕ → Bool} {lowest highest whole : ℕ} → ((x : ℕ) → p x ≡ q x) → RangeOf p lowest highest whole → RangeOf q lowest highest whole
-range-same same r = record {
+range-same {lowest = lowest} {highest = highest} same r = record {
   between = λ x e. r .between x (same x ∙ e);
+  attained = λ l. (sym (same lowest) ∙ r .attained l .0, sym (same highest) ∙ r .attained l .1);
   gapless = λ e x low high. sym (same x) ∙ r .gapless e x low high;
 }
+
+-- the range of one value
+pub range-one : {p : ℕ → Bool} (v : ℕ) → ((x : ℕ) → p x ≡ eqb x v) → RangeOf p v v 0
+range-one v is = record {
+  between = λ x e. let same = eqb-true x v (sym (is x) ∙ e) in (omega arith, omega arith);
+  attained = λ l. (is v ∙ eq-eqb v v refl, is v ∙ eq-eqb v v refl);
+  gapless = λ e. absurd (omega arith);
+}
+
+-- and of one value more
+pub range-more : {p q : ℕ → Bool} {lowest highest low high : ℕ} (v : ℕ) → ((x : ℕ) → q x ≡ (p x || eqb x v)) → lowest ≤ highest
+    → low ≤ v → low ≤ lowest → (low ≡ v) ⊎ (low ≡ lowest) → v ≤ high → highest ≤ high → (high ≡ v) ⊎ (high ≡ highest)
+    → RangeOf p lowest highest 0 → RangeOf q low high 0
+range-more {p} {q} {lowest} {highest} {low} {high} v is some low-own low-others low-is high-own high-others high-is r = record {
+  between = λ x e. ⊎-elim
+      (λ h. let (a, b) = r .between x h in (omega (arith, a), omega (arith, b)))
+      (λ h. let same = eqb-true x v h in (omega (arith, same), omega (arith, same)))
+      (or-cases (p x) (eqb x v) (sym (is x) ∙ e));
+  attained = λ l. (
+    is low ∙ ⊎-elim (λ e. or-right (p low) (eq-eqb low v e)) (λ e. or-left _ (ap p e ∙ r .attained some .0)) low-is,
+    is high ∙ ⊎-elim (λ e. or-right (p high) (eq-eqb high v e)) (λ e. or-left _ (ap p e ∙ r .attained some .1)) high-is,
+  );
+  gapless = λ e. absurd (omega arith);
+}
+
+-- the values of one row more
+module _ (words : List ℕ) (start : ℕ) where
+  pub no-values : RangeOf (hasValue words start 0 1) 1 0 0
+  no-values = record { between = λ x e. absurd (false≢true e); attained = λ l. absurd (omega arith); gapless = λ e. absurd (omega arith) }
+
+  pub one-more-value : (i : ℕ) → start + 2 * (i + 1) ≤ length words → (x : ℕ)
+      → hasValue words start (i + 1) 1 x ≡ (hasValue words start i 1 x || eqb x (getD words (start + 2 * i + 1) 0))
+  one-more-value i h x = rw (rows-at words start i 0 h, any-append, or-false) refl
+
+  pub one-value : start + 2 ≤ length words → RangeOf (hasValue words start 1 1) (getD words (start + 1) 0) (getD words (start + 1) 0) 0
+  one-value h =
+      let first : getD words (start + 2 * 0 + 1) 0 ≡ getD words (start + 1) 0 = ap (λ (k : ℕ). getD words k 0) (omega arith) in
+      range-one (getD words (start + 1) 0) (λ x. one-more-value 0 (omega arith) x ∙ ap (eqb x) first)
+
+-- where the words that ascend and are the values have no gaps, the range has none
+pub range-whole : {p : ℕ → Bool} {lowest highest : ℕ} (before whole : ℕ) (copy : List ℕ) (n : ℕ)
+    → (whole ≡ 1 → ((x : ℕ) → hasWord copy 0 1 n x ≡ p x) × Ascending copy 0 1 n × (isGapless copy 0 1 n ≡ true))
+    → RangeOf p lowest highest before → RangeOf p lowest highest whole
+unfolding hasWord
+range-whole {p} {lowest} {highest} before whole copy n known r = record {
+  between = r .between;
+  attained = r .attained;
+  gapless = λ e x low high. go e x low high (known e) n refl;
+}
+  where
+    go : whole ≡ 1 → (x : ℕ) → lowest ≤ x → x ≤ highest
+        → ((x : ℕ) → hasWord copy 0 1 n x ≡ p x) × Ascending copy 0 1 n × (isGapless copy 0 1 n ≡ true)
+        → (m : ℕ) → m ≡ n → p x ≡ true
+    go e x low high (same, ascending, whole-copy) zero none =
+        let has = ap (λ (k : ℕ). hasWord copy 0 1 k lowest) none in
+        absurd (false≢true (has ∙ same lowest ∙ r .attained (omega arith) .0))
+    go e x low high (same, ascending, whole-copy) (suc m) some =
+        let (has-low, has-high) = r .attained (omega arith) in
+        let all = range copy 0 1 n 0 ascending (omega arith) (λ e. absurd (omega arith)) in
+        let first : wordAt copy 0 1 0 ≡ getD copy 0 0 = ap (λ (k : ℕ). getD copy k 0) (omega arith) in
+        sym (same x)
+        ∙ has-between copy 0 1 n x whole-copy (omega arith) (omega (arith, first, all .between lowest (same lowest ∙ has-low) .0)) (omega (arith, all .between highest (same highest ∙ has-high) .1))
 
 -- ---- rows by the ranges of their columns
 
@@ -202,3 +267,45 @@ table-measured words ranges i {low} {high} {whole} {low'} {high'} {whole'} room 
         rw here (range-kept low' high' whole' half (6 * i + 3) fits-too (6 * i) (inl (omega arith)) (range-put low high whole ranges (6 * i) fits subjects))
     own (suc zero) l = range-put low' high' whole' half (6 * i + 3) fits-too objects
     own (suc (suc column)) l = absurd (omega arith)
+
+-- ---- the third number of a table's objects is written again
+
+module _ (ranges : List ℕ) (i whole : ℕ) where
+  again-other : (k : ℕ) → (k ≡ 6 * i + 5 → ⊥) → getD (set ranges (6 * i + 5) whole) k 0 ≡ getD ranges k 0
+  again-other k h = getD-set-other ranges (6 * i + 5) k whole 0 (λ e. h (omega arith))
+
+  -- what is apart is so by the first two
+  pub apart-again : (p j : ℕ) → apart (set ranges (6 * i + 5) whole) (6 * p) (6 * j + 3) ≡ apart ranges (6 * p) (6 * j + 3)
+  apart-again p j =
+      rw (
+        again-other (6 * p + 1) (λ e. omega arith),
+        again-other (6 * j + 3) (λ e. omega arith),
+        again-other (6 * j + 3 + 1) (λ e. omega arith),
+        again-other (6 * p) (λ e. omega arith),
+      ) refl
+
+  pub measured-again : (words : List ℕ) (count : ℕ) → 6 * i + 6 ≤ length ranges → AllMeasured words ranges count
+      → RangeOf (hasValue words (getD words (3 + 3 * i + 2) 0) (getD words (3 + 3 * i + 1) 0) 1) (getD ranges (6 * i + 3) 0) (getD ranges (6 * i + 3 + 1) 0) whole
+      → AllMeasured words (set ranges (6 * i + 5) whole) count
+  measured-again words count room measured own j h column l = go (eqb j i) refl column l
+    where
+      here : getD (set ranges (6 * i + 5) whole) (6 * i + 3 + 2) 0 ≡ whole
+      here = ap (λ (k : ℕ). getD (set ranges (6 * i + 5) whole) k 0) (omega arith) ∙ getD-set-same ranges (6 * i + 5) whole 0 (omega arith)
+
+      kept : (column : ℕ) → column < 2 → (6 * j + 3 * column ≡ 6 * i + 3 → ⊥)
+          → ColumnRange words (getD words (3 + 3 * j + 2) 0) (getD words (3 + 3 * j + 1) 0) column (set ranges (6 * i + 5) whole) (6 * j + 3 * column)
+      kept column l other =
+          rw (
+            again-other (6 * j + 3 * column) (λ e. omega arith),
+            again-other (6 * j + 3 * column + 1) (λ e. omega arith),
+            again-other (6 * j + 3 * column + 2) (λ e. other (omega arith)),
+          ) (measured j h column l)
+
+      go : (b : Bool) → eqb j i ≡ b → (column : ℕ) → column < 2
+          → ColumnRange words (getD words (3 + 3 * j + 2) 0) (getD words (3 + 3 * j + 1) 0) column (set ranges (6 * i + 5) whole) (6 * j + 3 * column)
+      go b e zero l = kept 0 l (λ d. omega arith)
+      go false e (suc zero) l = kept 1 l (λ d. eqb-false j i e (omega arith))
+      go true e (suc zero) l =
+          let same : j ≡ i = eqb-true j i e in
+          rw (same, again-other (6 * i + 3) (λ d. omega arith), again-other (6 * i + 3 + 1) (λ d. omega arith), here) own
+      go b e (suc (suc c)) l = absurd (omega arith)

@@ -6,7 +6,7 @@ use native.Mathlib.Omega.{arith}
 use mathlib.Core.Path.{_≡_, refl, sym, ap, _∙_}
 use mathlib.Core.Bool.{true, false, _&&_}
 use mathlib.Core.List.{List, [], _∷_, _++_, map, map-append}
-use lib.ListN.{length, getD, take, drop, length-map, List·getD-append}
+use lib.ListN.{length, getD, take, drop, set, length-map, List·getD-append}
 use lib.Seq.{length-take-le, getD-take, getD-drop, getD-append-add}
 use lib.Dec.{eqb, ltb}
 use borrow.Author.Count.{below-more}
@@ -25,7 +25,9 @@ use Rattle.rows.specs.Search.{wordAt, Ascending, hasWord}
 use Rattle.tables.specs.SiteWords.{siteIn, ImageOf}
 use Rattle.tables.proofs.Rows.{rowAt, rows-at}
 use Rattle.tables.proofs.Images.{table-in}
-use Rattle.checking.specs.Searching.{Searchable, AllSearchable, CopyOf}
+use Rattle.checking.specs.Searching.{AllSearchable, ObjectsSorted, AllSorted, CopyOf}
+use Rattle.checking.specs.Ranges.{apart}
+use Rattle.checking.proofs.ColumnRanges.{apart-again}
 use Rattle.checking.proofs.SortedObjects.{places-sorted, any-same}
 
 -- ---- where the tables start
@@ -154,7 +156,7 @@ module _ {count : ℕ} {w : List ℕ} (o : ImageOf count w) where
       let earlier : j < count = omega arith in
       omega (arith, start i h, start j earlier, table-in o j earlier .count, rows-earlier site j i l)
 
-  ascending : (i : ℕ) → i < count → Ascending w (startAt i) 2 (rowsAt i)
+  pub ascending : (i : ℕ) → i < count → Ascending w (startAt i) 2 (rowsAt i)
   ascending i h =
       let table = table-in o i h in
       let rs = tableAt site i .rows in
@@ -162,43 +164,48 @@ module _ {count : ℕ} {w : List ℕ} (o : ImageOf count w) where
       let order = and-cases (all (λ r. isTerm (r .0) && isTerm (r .1)) rs) (ascends rowBefore rs) good .1 in
       subjects-ascend w (startAt i) (rowsAt i) (table .inside) (ap (ascends rowBefore) (table .back) ∙ order)
 
+  -- each can be searched by its subjects
+  pub all-searchable : (objects : List ℕ) → rowTotal site ≤ length objects → AllSearchable count w objects count
+  all-searchable objects room i h = record {
+    behind = behind-first i h;
+    inside = table-in o i h .inside;
+    copied = omega (arith, part-fits i h);
+    subjects-ascend = ascending i h;
+  }
+
   -- the sorted objects of table i are put into its part
-  module _ (objects copy rest : List ℕ) (i : ℕ) (h : i < count) (room : rowTotal site ≤ length objects)
-      (fit : rowsAt i ≤ length copy) (size : length (putBack objects (partAt i) copy rest) ≡ length objects) where
+  module _ (objects copy rest : List ℕ) (i : ℕ) (h : i < count) (room : rowTotal site ≤ length objects) (fit : rowsAt i ≤ length copy) where
     inside : partAt i ≤ length objects
     inside = omega (arith, part-fits i h)
 
-    earlier-kept : (j : ℕ) → j < i → Searchable w objects (rowsStart count) (startAt j) (rowsAt j)
-        → Searchable w (putBack objects (partAt i) copy rest) (rowsStart count) (startAt j) (rowsAt j)
+    earlier-kept : (j : ℕ) → j < i → ObjectsSorted w objects (rowsStart count) (startAt j) (rowsAt j)
+        → ObjectsSorted w (putBack objects (partAt i) copy rest) (rowsStart count) (startAt j) (rowsAt j)
     earlier-kept j l s =
         let now = putBack objects (partAt i) copy rest in
         let same : (k : ℕ) → k < rowsAt j → wordAt now (partAt j) 1 k ≡ wordAt objects (partAt j) 1 k =
         λ k m. word-before objects copy rest (partAt i) inside (partAt j + 1 * k) (omega (arith, parts-apart j i l h)) in
         record {
-          behind = s .behind;
-          inside = s .inside;
-          copied = rw size (s .copied);
-          subjects-ascend = s .subjects-ascend;
           objects-ascend = ascending-moved objects now (partAt j) (partAt j) (rowsAt j) same (s .objects-ascend);
           same-objects = λ x. value-moved objects now (partAt j) (partAt j) (rowsAt j) same x ∙ s .same-objects x;
         }
 
-    one-put : CopyOf w (startAt i) (rowsAt i) copy → Searchable w (putBack objects (partAt i) copy rest) (rowsStart count) (startAt i) (rowsAt i)
+    one-put : CopyOf w (startAt i) (rowsAt i) copy → ObjectsSorted w (putBack objects (partAt i) copy rest) (rowsStart count) (startAt i) (rowsAt i)
     one-put c =
         let now = putBack objects (partAt i) copy rest in
         let same : (k : ℕ) → k < rowsAt i → wordAt now (partAt i) 1 k ≡ wordAt copy 0 1 k =
         λ k m. word-there objects copy rest (partAt i) inside k (omega arith) in
         record {
-          behind = behind-first i h;
-          inside = table-in o i h .inside;
-          copied = rw size (omega (arith, part-fits i h));
-          subjects-ascend = ascending i h;
           objects-ascend = ascending-moved copy now 0 (partAt i) (rowsAt i) same (c .ascend);
           same-objects = λ x. value-moved copy now 0 (partAt i) (rowsAt i) same x ∙ c .same x;
         }
 
-    pub one-more-searchable : AllSearchable count w objects i → CopyOf w (startAt i) (rowsAt i) copy
-        → AllSearchable count w (putBack objects (partAt i) copy rest) (i + 1)
-    one-more-searchable s c =
-        below-more (λ j. Searchable w (putBack objects (partAt i) copy rest) (rowsStart count) (startAt j) (rowsAt j)) i
-        (λ j l. earlier-kept j l (s j l)) (one-put c)
+    -- if they are reached; with them the third number of their range is written
+    pub one-more-sorted : (ranges : List ℕ) (whole : ℕ) → AllSorted count w objects ranges i
+        → ((p : ℕ) → p < count → apart ranges (6 * p) (6 * i + 3) ≡ false → CopyOf w (startAt i) (rowsAt i) copy)
+        → AllSorted count w (putBack objects (partAt i) copy rest) (set ranges (6 * i + 5) whole) (i + 1)
+    one-more-sorted ranges whole s c =
+        below-more
+        (λ j. (p : ℕ) → p < count → apart (set ranges (6 * i + 5) whole) (6 * p) (6 * j + 3) ≡ false
+        → ObjectsSorted w (putBack objects (partAt i) copy rest) (rowsStart count) (startAt j) (rowsAt j)) i
+        (λ j l p m e. earlier-kept j l (s j l p m (sym (apart-again ranges i whole p j) ∙ e)))
+        (λ p m e. one-put (c p m (sym (apart-again ranges i whole p i) ∙ e)))

@@ -1,10 +1,10 @@
 -- The range of a column's values, by which rows have no partners or all have, without a search.
 use Prim.Native.Nat.{ℕ, _+_, _-_, _*_, _≤_, _<_}
 use mathlib.Core.Path.{_≡_}
-use mathlib.Core.Bool.{Bool, true}
+use mathlib.Core.Bool.{Bool, true, _||_}
 use mathlib.Core.List.{List}
 use lib.ListN.{getD, drop}
-use lib.Dec.{eqb, leb}
+use lib.Dec.{eqb, ltb, leb}
 use Rattle.model.specs.Lists.{any, all, below}
 use Rattle.model.specs.Tables.{at}
 use Rattle.model.specs.Store.{rowsIn}
@@ -15,9 +15,10 @@ use Rattle.rows.specs.Search.{wordAt}
 unfoldable pub isGapless : List ℕ → ℕ → ℕ → ℕ → Bool
 isGapless words base stride n = all (λ i. leb (wordAt words base stride (i + 1)) (wordAt words base stride i + 1)) (below (n - 1))
 
--- what passes a test is between two numbers, and where the third is 1 all between them passes
+-- what passes a test is between two numbers, which pass it, and where the third is 1 all between them passes
 pub record RangeOf (passes : ℕ → Bool) (lowest highest whole : ℕ) : Type 0 where
   pub between : (x : ℕ) → passes x ≡ true → (lowest ≤ x) × (x ≤ highest)
+  pub attained : lowest ≤ highest → (passes lowest ≡ true) × (passes highest ≡ true)
   pub gapless : whole ≡ 1 → (x : ℕ) → lowest ≤ x → x ≤ highest → passes x ≡ true
 
 -- some of the n rows at `start` has the value x at a column
@@ -34,3 +35,7 @@ abbrev pub AllMeasured : List ℕ → List ℕ → ℕ → Type 0
 AllMeasured words ranges k =
     (i : ℕ) → i < k → (column : ℕ) → column < 2
     → ColumnRange words (getD words (3 + 3 * i + 2) 0) (getD words (3 + 3 * i + 1) 0) column ranges (6 * i + 3 * column)
+
+-- no value is in both of the ranges at two places
+abbrev pub apart : List ℕ → ℕ → ℕ → Bool
+apart ranges a b = ltb (getD ranges (a + 1) 0) (getD ranges b 0) || ltb (getD ranges (b + 1) 0) (getD ranges a 0)

@@ -8,7 +8,7 @@ ghost use Rattle.model.specs.Tables.{at, semiJoin};
 ghost use Rattle.model.specs.Store.{rowsIn, tableWords};
 ghost use Rattle.tables.specs.Columns.{columnOf, kindOfColumns};
 ghost use Rattle.rows.specs.Search.{Ascending};
-ghost use Rattle.checking.specs.Searching.{Searchable, rowsWith};
+ghost use Rattle.checking.specs.Searching.{Searchable, ObjectsSorted, rowsWith};
 ghost use Rattle.checking.specs.Ranges.{ColumnRange};
 use rows::search::has_word;
 use tables::operands::Operands;
@@ -24,7 +24,7 @@ pub fn has_partner(
     column: usize,
     value: u32,
 ) -> bool
-    requires { ⌜ Searchable (now w) (now objects) first start n × (column < 2) ⌝ }
+    requires { ⌜ Searchable (now w) (now objects) first start n × (column < 2) × (column ≡ 1 → ObjectsSorted (now w) (now objects) first start n) ⌝ }
     ensures { λ r. ⌜ r ≡ any (λ s. eqb value (at (columnOf column) s)) (rowsIn n (drop start (now (w .entry)))) ⌝ }
 {
     if column == 0 {
@@ -57,8 +57,8 @@ fn count_words(
     kept
 }
 
-// How many rows a semi-join of predicate p against q leaves. By the ranges of the two columns none may be left, or all; else which words
-// are searched is decided once, before the rows.
+// How many rows a semi-join of predicate p against q leaves, by the columns that are compared. By their ranges all may be left; else which
+// words are searched is decided once, before the rows.
 pub fn count_partnered(
     w: &[u32],
     objects: &[u32],
@@ -67,25 +67,19 @@ pub fn count_partnered(
     p: usize,
     q: usize,
     o: Operands,
+    own: usize,
+    other: usize,
 ) -> usize
-    requires { ⌜ (o .start + 2 * o .rows ≤ length (now w)) × Searchable (now w) (now objects) first (o .against) (o .partners) × (o .own < 2) × (o .other < 2) ⌝ }
-    requires { ⌜ (p < mostPredicates) × (q < mostPredicates) × ColumnRange (now w) (o .start) (o .rows) (o .own) (now ranges) (6 * p + 3 * o .own) × ColumnRange (now w) (o .against) (o .partners) (o .other) (now ranges) (6 * q + 3 * o .other) ⌝ }
-    ensures { λ r. ⌜ r ≡ length (semiJoin (kindOfColumns (o .own) (o .other)) (rowsIn (o .rows) (drop (o .start) (now (w .entry)))) (rowsIn (o .partners) (drop (o .against) (now (w .entry))))) ⌝ }
+    requires { ⌜ (o .start + 2 * o .rows ≤ length (now w)) × Searchable (now w) (now objects) first (o .against) (o .partners) × (own < 2) × (other < 2) × (other ≡ 1 → ObjectsSorted (now w) (now objects) first (o .against) (o .partners)) ⌝ }
+    requires { ⌜ (p < mostPredicates) × (q < mostPredicates) × ColumnRange (now w) (o .start) (o .rows) own (now ranges) (6 * p + 3 * own) × ColumnRange (now w) (o .against) (o .partners) other (now ranges) (6 * q + 3 * other) ⌝ }
+    ensures { λ r. ⌜ r ≡ length (semiJoin (kindOfColumns own other) (rowsIn (o .rows) (drop (o .start) (now (w .entry)))) (rowsIn (o .partners) (drop (o .against) (now (w .entry))))) ⌝ }
 {
-    let own = o.own;
-    let other = o.other;
     let a = 6 * p + 3 * own;
     let b = 6 * q + 3 * other;
     let lowest = ranges[a];
     let highest = ranges[a + 1];
     let partner_lowest = ranges[b];
     let partner_highest = ranges[b + 1];
-    if highest < partner_lowest {
-        return 0;
-    }
-    if partner_highest < lowest {
-        return 0;
-    }
     if ranges[b + 2] == 1 && partner_lowest <= lowest && highest <= partner_highest {
         return o.rows;
     }
@@ -119,7 +113,7 @@ pub fn compare_partnered(
     k: usize,
 ) -> bool
     requires { ⌜ (p + 2 * m ≤ length (now w)) × Searchable (now w) (now objects) first q n × (own < 2) × (other < 2) ⌝ }
-    requires { ⌜ at + 2 * k ≤ length (now w) ⌝ }
+    requires { ⌜ (at + 2 * k ≤ length (now w)) × (other ≡ 1 → ObjectsSorted (now w) (now objects) first q n) ⌝ }
     ensures { λ r. ⌜ r ≡ sameWords (take (2 * k) (drop at (now (w .entry)))) (tableWords (semiJoin (kindOfColumns own other) (rowsIn m (drop p (now (w .entry)))) (rowsIn n (drop q (now (w .entry)))))) ⌝ }
 {
     let end = at + 2 * k;

@@ -6,7 +6,7 @@ ghost use Rattle.model.specs.Site.{rowTotal};
 ghost use Rattle.model.specs.Tables.{kindCount, mostThreshold};
 ghost use Rattle.model.specs.Store.{kept, rowsStart, storedStart};
 ghost use Rattle.tables.specs.SiteWords.{siteIn, ImageOf, reducedAt, semiJoinPlace};
-ghost use Rattle.checking.specs.Searching.{AllSearchable};
+ghost use Rattle.checking.specs.Searching.{AllSearchable, AllSorted};
 ghost use Rattle.checking.specs.Ranges.{AllMeasured};
 ghost use Rattle.checking.specs.Joins.{joinHolds, joinsHold};
 ghost use Rattle.checking.specs.declared.entries.Place.the-variants.{At, Wrong};
@@ -14,9 +14,12 @@ use crate::entries::Place;
 use crate::objects::copy_objects;
 use crate::partners::compare_partnered;
 use crate::partners::count_partnered;
+use crate::ranges::columns_apart;
 use crate::ranges::measure_columns;
 use tables::kinds::KINDS;
 use tables::kinds::is_stored;
+use tables::kinds::own_column;
+use tables::kinds::partner_column;
 use tables::operands::operands_of;
 use tables::operands::rows_start;
 
@@ -35,7 +38,7 @@ pub fn semi_join_end(
     used: usize,
 ) -> Place
     requires { ⌜ ImageOf count (now w) × (p < count) × (q < count) × (k < kindCount) × (t ≤ mostThreshold) × (here ≤ used) × (used ≤ length (now w)) ⌝ }
-    requires { ⌜ AllSearchable count (now w) (now objects) count × AllMeasured (now w) (now ranges) count × (first ≡ rowsStart count) ⌝ }
+    requires { ⌜ AllSearchable count (now w) (now objects) count × AllSorted count (now w) (now objects) (now ranges) count × AllMeasured (now w) (now ranges) count × (first ≡ rowsStart count) ⌝ }
     ensures { λ r. ⌜ r ≡ cond (joinHolds t (now (w .entry)) (reducedAt (siteIn count (now (w .entry))) (semiJoinPlace count p q k)) (3 + 3 * count + 2 * semiJoinPlace count p q k) here used) (At (here + 2 * length (kept t (reducedAt (siteIn count (now (w .entry))) (semiJoinPlace count p q k))))) Wrong ⌝ }
 {
     let o = operands_of(w, count, p, q, k);
@@ -45,6 +48,15 @@ pub fn semi_join_end(
     let rows = o.rows;
     if rows < left {
         return Place::Wrong;
+    }
+    let own = own_column(k);
+    let other = partner_column(k);
+    if columns_apart(ranges, 6 * p + 3 * own, 6 * q + 3 * other) {
+        // No row is left.
+        if left != 0 || start != 0 {
+            return Place::Wrong;
+        }
+        return Place::At(here);
     }
     if is_stored(t, left, rows) {
         if start != here || used < here + 2 * left {
@@ -56,10 +68,10 @@ pub fn semi_join_end(
             first,
             o.start,
             rows,
-            o.own,
+            own,
             o.against,
             o.partners,
-            o.other,
+            other,
             here,
             left,
         ) {
@@ -70,7 +82,7 @@ pub fn semi_join_end(
     if start != 0 {
         return Place::Wrong;
     }
-    if count_partnered(w, objects, first, ranges, p, q, o) != left {
+    if count_partnered(w, objects, first, ranges, p, q, o, own, other) != left {
         return Place::Wrong;
     }
     Place::At(here)
@@ -89,10 +101,10 @@ fn semi_joins_hold_with(
     requires { ⌜ ImageOf count (now w) × (t ≤ mostThreshold) × (first ≡ storedStart (siteIn count (now w))) × (first ≤ used) × (used ≤ length (now w)) × (rowTotal (siteIn count (now w)) ≤ length (now objects)) ⌝ }
     ensures { λ r. ⌜ r ≡ joinsHold t count (now (w .entry)) used ⌝ }
 {
-    copy_objects(w, count, objects);
     let rows = rows_start(count);
     let mut ranges = [0u32; 96];
-    measure_columns(w, objects, rows, count, &mut ranges);
+    measure_columns(w, count, &mut ranges);
+    copy_objects(w, count, &mut ranges, objects);
     let mut here = first;
     let mut p: usize = 0;
     let mut q: usize = 0;

@@ -1,50 +1,62 @@
--- The tables one by one. The invariant: each table passed can be searched by either column.
-use Prim.Native.Nat.{_+_, _*_, _-_, _/_, _≤_}
+-- The tables one by one. The invariant: the objects of each table passed that are reached are sorted, and the ranges are those of the columns.
+use Prim.Native.Nat.{ℕ, _+_, _*_, _-_, _/_, _≤_}
 use native.Mathlib.Omega.{arith}
-use mathlib.Core.Path.{_≡_, refl, _∙_}
-use lib.ListN.{length, getD}
+use mathlib.Core.Path.{_≡_, refl, sym, _∙_, subst}
+use lib.ListN.{length, getD, length-set}
 use Rattle.model.specs.Site.{rowTotal}
 use Rattle.tables.specs.SiteWords.{siteIn, ImageOf}
 use Rattle.tables.proofs.Images.{few-predicates, entries-inside, table-in}
-use Rattle.checking.specs.Searching.{AllSearchable}
-use Rattle.checking.proofs.SearchableTables.{behind-first, part-fits, one-more-searchable}
+use Rattle.checking.specs.Searching.{AllSorted}
+use Rattle.checking.specs.Ranges.{AllMeasured}
+use Rattle.checking.proofs.ColumnRanges.{range-whole, measured-again}
+use Rattle.checking.proofs.SearchableTables.{behind-first, part-fits, all-searchable, one-more-sorted}
 use Rattle.checking.proofs.objects.copy_objects.Statement.{statement}
 use Rattle.checking.proofs.objects.copy_objects.Tie as tie
 
 abbrev Inv-loop : tie.InvT-loop
-Inv-loop w count objects₀ first i₀ objects i = (i ≤ count) × (length objects ≡ length objects₀) × AllSearchable count w objects i
+Inv-loop w count ranges₀ objects₀ first i₀ ranges objects i = (i ≤ count) × (length ranges ≡ 96) × (length objects ≡ length objects₀) × AllSorted count w objects ranges i × AllMeasured w ranges count
 
 abbrev μ-loop : tie.MeasureT-loop
-μ-loop w count objects₀ first i₀ objects i = count - i
+μ-loop w count ranges₀ objects₀ first i₀ ranges objects i = count - i
 
--- the words are an image, in each turn
-image : (c : tie.In-loop Inv-loop μ-loop) → let s = c .before .before .before .before .before .args in ImageOf (s .count) (s .w .now)
-image c = c .before .before .before .before .before .pre .0
+module _ (c : tie.In-loop Inv-loop μ-loop) where
+  abbrev start : tie.Start Inv-loop μ-loop
+  start = c .before .before .before .before .before
 
--- the part of the copy that table i has ends where the rows of all would, or before
-part : (c : tie.In-loop Inv-loop μ-loop) →
-    let w = c .before .before .before .before .before .args .w .now in
-    let i = c .before .loop .i in
-    (getD w (3 + 3 * i + 2) 0 - c .before .before .rows-start .result) / 2 + getD w (3 + 3 * i + 1) 0 ≤ rowTotal (siteIn (c .before .before .before .before .before .args .count) w)
-part c = rw (c .before .before .rows-start .ensures) (part-fits (image c) (c .before .loop .i) (c .loop-test .taken))
+  -- the words are an image of few predicates
+  image : ImageOf (start .args .count) (start .args .w .now)
+  image = start .pre .0
+
+  few : start .args .count ≤ 16
+  few = few-predicates image
+
+  -- the part of the copy that table i has ends where the rows of all would, or before
+  part : let w = start .args .w .now in
+      let i = c .before .loop .i in
+      (getD w (3 + 3 * i + 2) 0 - c .before .before .rows-start .result) / 2 + getD w (3 + 3 * i + 1) 0 ≤ rowTotal (siteIn (start .args .count) w)
+  part =
+      let w = start .args .w .now in
+      let i = c .before .loop .i in
+      subst (λ (first : ℕ). (getD w (3 + 3 * i + 2) 0 - first) / 2 + getD w (3 + 3 * i + 1) 0 ≤ rowTotal (siteIn (start .args .count) w)) (sym (c .before .before .rows-start .ensures))
+      (part-fits image i (c .loop-test .taken))
 
 rows-start-requires : tie.Need-rows-start-requires Inv-loop μ-loop
 rows-start-requires c κs = few-predicates (c .before .before .pre .0)
 
 loop-holds : tie.Need-loop-holds Inv-loop μ-loop
-loop-holds c = (omega arith, refl, λ i h. absurd (omega arith))
+loop-holds c = (omega arith, c .before .before .before .pre .3, refl, (λ i h. absurd (omega arith)), c .before .before .before .pre .2)
 
 mul-n : tie.Need-mul-n Inv-loop μ-loop
-mul-n c = omega arith
+mul-n c = omega (arith, few c)
 
 add-n : tie.Need-add-n Inv-loop μ-loop
-add-n c = omega arith
+add-n c = omega (arith, few c)
 
 add-n-2 : tie.Need-add-n-2 Inv-loop μ-loop
-add-n-2 c = omega arith
+add-n-2 c = omega (arith, few c)
 
 mul-n-2 : tie.Need-mul-n-2 Inv-loop μ-loop
-mul-n-2 c = omega arith
+mul-n-2 c = omega (arith, few c)
 
 shared-slice-read-n : tie.Need-shared-slice-read-n Inv-loop μ-loop
 shared-slice-read-n c = omega (arith, entries-inside (image (c .before)))
@@ -53,16 +65,16 @@ cast-n : tie.Need-cast-n Inv-loop μ-loop
 cast-n c = omega (arith, c .shared-slice-known2 .given (3 + 3 * c .before .before .loop .i + 1))
 
 mul-start : tie.Need-mul-start Inv-loop μ-loop
-mul-start c = omega arith
+mul-start c = omega (arith, few (c .before))
 
 add-start : tie.Need-add-start Inv-loop μ-loop
-add-start c = omega arith
+add-start c = omega (arith, few (c .before))
 
 add-start-2 : tie.Need-add-start-2 Inv-loop μ-loop
-add-start-2 c = omega arith
+add-start-2 c = omega (arith, few (c .before))
 
 mul-start-2 : tie.Need-mul-start-2 Inv-loop μ-loop
-mul-start-2 c = omega arith
+mul-start-2 c = omega (arith, few (c .before))
 
 shared-slice-read-start : tie.Need-shared-slice-read-start Inv-loop μ-loop
 shared-slice-read-start c = omega (arith, entries-inside (image (c .before .before)))
@@ -71,24 +83,45 @@ cast-start : tie.Need-cast-start Inv-loop μ-loop
 cast-start c = omega (arith, c .shared-slice-known3 .given (3 + 3 * c .before .before .before .loop .i + 2))
 
 sub-to : tie.Need-sub-to Inv-loop μ-loop
-sub-to c = omega (arith, behind-first (image (c .before .before)) _ (c .before .before .loop-test .taken))
+sub-to c = omega (arith, behind-first (image (c .before .before)) _ (c .before .before .loop-test .taken), c .before .before .before .before .rows-start .ensures)
 
-mul-copy-sorted : tie.Need-mul-copy-sorted Inv-loop μ-loop
-mul-copy-sorted c = omega (arith, part (c .before .before))
+mul-is-reached : tie.Need-mul-is-reached Inv-loop μ-loop
+mul-is-reached c = omega (arith, few (c .before .before .before))
 
-sub-copy-sorted : tie.Need-sub-copy-sorted Inv-loop μ-loop
-sub-copy-sorted c = omega (arith, part (c .before .before))
+add-is-reached : tie.Need-add-is-reached Inv-loop μ-loop
+add-is-reached c = omega (arith, few (c .before .before .before))
 
-part-copy-sorted-start : tie.Need-part-copy-sorted-start Inv-loop μ-loop
-part-copy-sorted-start c = omega (arith, part (c .before .before))
+is-reached-requires : tie.Need-is-reached-requires Inv-loop μ-loop
+is-reached-requires c κs = (few (c .before .before .before), omega (arith, few (c .before .before .before)))
 
-part-copy-sorted-end : tie.Need-part-copy-sorted-end Inv-loop μ-loop
-part-copy-sorted-end c = omega arith
+mul-copy-reached : tie.Need-mul-copy-reached Inv-loop μ-loop
+mul-copy-reached c = omega (arith, part (c .before .before .before .before))
 
-copy-sorted-requires : tie.Need-copy-sorted-requires Inv-loop μ-loop
-copy-sorted-requires c κs =
-    let l = c .before .before .before in
-    (table-in (image l) _ (l .loop-test .taken) .inside, omega (arith, part l, c .copy-sorted-arg .given .2))
+sub-copy-reached : tie.Need-sub-copy-reached Inv-loop μ-loop
+sub-copy-reached c = omega (arith, part (c .before .before .before .before))
+
+part-copy-reached-start : tie.Need-part-copy-reached-start Inv-loop μ-loop
+part-copy-reached-start c = omega (arith, part (c .before .before .before .before))
+
+part-copy-reached-end : tie.Need-part-copy-reached-end Inv-loop μ-loop
+part-copy-reached-end c = omega arith
+
+copy-reached-requires : tie.Need-copy-reached-requires Inv-loop μ-loop
+copy-reached-requires c κs =
+    let turn = c .before .before .before .before .before in
+    (table-in (image turn) _ (turn .loop-test .taken) .inside, omega (arith, part turn, c .copy-reached-arg .given .2))
+
+mul-ranges : tie.Need-mul-ranges Inv-loop μ-loop
+mul-ranges c = omega (arith, few (c .before .before .before .before .before .before .before .before))
+
+add-ranges : tie.Need-add-ranges Inv-loop μ-loop
+add-ranges c = omega (arith, few (c .before .before .before .before .before .before .before .before))
+
+mul-ranges-2 : tie.Need-mul-ranges-2 Inv-loop μ-loop
+mul-ranges-2 c = omega (arith, few (c .before .before .before .before .before .before .before .before))
+
+element-write-ranges : tie.Need-element-write-ranges Inv-loop μ-loop
+element-write-ranges c = omega (arith, few (c .before .before .before .before .before .before .before .before))
 
 add-i : tie.Need-add-i Inv-loop μ-loop
 add-i c = omega arith
@@ -98,24 +131,43 @@ loop-less c = omega arith
 
 loop-again : tie.Need-loop-again Inv-loop μ-loop
 loop-again c =
-    let k = c .before .before in
-    let l = k .before .before .before .before in
-    let first = l .before .before .rows-start .ensures in
+    let put = c .before .before in
+    let turn = put .before .before .before .before .before .before in
+    let s = start turn in
+    let w = s .args .w .now in
+    let i = turn .before .loop .i in
+    let ranges = turn .before .loop .ranges in
+    let inv = turn .before .loop .inv in
+    let whole = put .copy-reached .result in
+    let copy = put .copy-reached .last .1 .1 .1 .1 .0 in
+    let first = turn .before .before .rows-start .ensures in
     let size = c .before .objects .given .1 in
-    let s = l .before .before .before .before .before in
-    let room : rowTotal (siteIn (s .args .count) (s .args .w .now)) ≤ length (l .before .loop .objects) = omega (arith, l .before .loop .inv .1, s .pre .1) in (
+    let reached = c .before .before .before .before .is-reached .ensures in
+    let room : rowTotal (siteIn (s .args .count) w) ≤ length (turn .before .loop .objects) = omega (arith, inv .2, s .pre .1) in (
       omega arith,
-      size ∙ l .before .loop .inv .1,
+      length-set ranges (6 * i + 5) whole ∙ inv .1,
+      size ∙ inv .2,
       rw first
-          (one-more-searchable (image l) (l .before .loop .objects) (k .copy-sorted .last .1 .1 .1 .0) _ (l .before .loop .i) (l .loop-test .taken)
-          room (omega (arith, part l, c .before .objects .given .0, k .before .copy-sorted-arg .given .2)) (rw first at size) (l .before .loop .inv .2) (k .copy-sorted .ensures .0)),
+          (one-more-sorted (image turn) (turn .before .loop .objects) copy _ i (turn .loop-test .taken) room
+          (omega (arith, part turn, c .before .objects .given .0, put .before .copy-reached-arg .given .2)) ranges whole (inv .3)
+          (λ p m e. put .copy-reached .ensures .0 (reached p m e))),
+      measured-again ranges i whole w (s .args .count) (omega (arith, few turn, inv .1)) (inv .4)
+          (range-whole _ whole copy _
+          (λ e.
+          let (asked, gapless) = put .copy-reached .ensures .1 e in
+          let sorted = put .copy-reached .ensures .0 asked in
+          (sorted .same, sorted .ascend, gapless))
+          (inv .4 i (turn .loop-test .taken) 1 (omega arith))),
     )
 
 same-length : tie.Need-same-length Inv-loop μ-loop
-same-length c = c .before .loop .inv .1
+same-length c = c .before .loop .inv .2
 
 returns : tie.Need-returns Inv-loop μ-loop
-returns c = λ i h. c .before .loop .inv .2 i (omega arith)
+returns c =
+    let s = c .before .before .before .before .before in
+    let inv = c .before .loop .inv in
+    (all-searchable (s .pre .0) _ (omega (arith, inv .2, s .pre .1)), (λ i h. inv .3 i (omega arith)), inv .4)
 
 pub copy-objects-spec : {M : Type 1} → statement M
 copy-objects-spec =
@@ -138,11 +190,18 @@ copy-objects-spec =
     shared-slice-read-start
     cast-start
     sub-to
-    mul-copy-sorted
-    sub-copy-sorted
-    part-copy-sorted-start
-    part-copy-sorted-end
-    copy-sorted-requires
+    mul-is-reached
+    add-is-reached
+    is-reached-requires
+    mul-copy-reached
+    sub-copy-reached
+    part-copy-reached-start
+    part-copy-reached-end
+    copy-reached-requires
+    mul-ranges
+    add-ranges
+    mul-ranges-2
+    element-write-ranges
     add-i
     loop-less
     loop-again

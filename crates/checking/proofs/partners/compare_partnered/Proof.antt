@@ -71,7 +71,7 @@ returns : tie.Need-returns Inv-loop μ-loop
 unfolding leftOf
 returns c =
     let outer = c .before .before .before .before .before in
-    too-many _ _ _ (outer .before .before .before .pre .1) (outer .loop .inv .1) (at-hand (c .before)) (c .if2 .taken)
+    too-many _ _ _ (outer .before .before .before .pre .1 .0) (outer .loop .inv .1) (at-hand (c .before)) (c .if2 .taken)
 
 mul-if3 : tie.Need-mul-if3 Inv-loop μ-loop
 mul-if3 c = search needs
@@ -108,7 +108,7 @@ unfolding leftOf
 returns-2 c =
     let match = c .before .before .before .before in
     let outer = match .before .before .before .before in
-    differs _ _ _ (outer .before .before .before .pre .1) (outer .loop .inv .1) (at-hand match)
+    differs _ _ _ (outer .before .before .before .pre .1 .0) (outer .loop .inv .1) (at-hand match)
     (λ first second. ⊎-elim (λ w. w .taken first) (λ w. eqb-false _ _ (not-true _ (w .3 .taken)) second) (c .if3 .came))
 
 add-next : tie.Need-add-next Inv-loop μ-loop
@@ -127,7 +127,7 @@ loop-again c =
       search needs,
       ⊎-elim
           (λ w.
-          let one-more = row-compared _ _ _ (outer .before .before .before .pre .1) before _ (omega arith) (w .4 .left) (eqb-true _ _ (not-false _ (w .7 .left))) in
+          let one-more = row-compared _ _ _ (outer .before .before .before .pre .1 .0) before _ (omega arith) (w .4 .left) (eqb-true _ _ (not-false _ (w .7 .left))) in
           rw (w .8, row-left _ _ _ _ _ _ _ (answer (c .before) ∙ w .0 .taken) (omega arith)) one-more)
           (λ w. rw (w .1, row-not-left _ _ _ _ _ _ _ (omega arith) (answer (c .before) ∙ w .0 .left)) before)
           (c .if1 .came),
@@ -138,7 +138,7 @@ unfolding leftOf
 returns-3 c =
     let start = c .before .before .before .before in
     let all : c .before .loop .i ≡ start .args .m = omega arith in
-    verdict _ _ _ (start .pre .1) (rw all at (c .before .loop .inv .1))
+    verdict _ _ _ (start .pre .1 .0) (rw all at (c .before .loop .inv .1))
 
 pub compare-partnered-spec : {M : Type 1} → statement M
 compare-partnered-spec =

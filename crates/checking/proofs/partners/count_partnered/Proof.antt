@@ -1,15 +1,14 @@
--- By the ranges no row is left or all are; else the rows whose value is one of the partners' words.
+-- By the ranges all rows are left; else the rows whose value is one of the partners' words.
 use Prim.Native.Nat.{_+_, _*_}
 use native.Mathlib.Omega.{arith}
 use native.Mathlib.Nat.{le-refl}
 use mathlib.Core.Path.{_≡_, sym, ap, _∙_}
-use mathlib.Core.Logic.{inl, inr}
 use lib.ListN.{length}
-use borrow.Author.Needs.{needs}
 use borrow.Author.Tests.{leb-true}
 use Rattle.tables.proofs.Partners.{leftOf}
-use Rattle.checking.proofs.ColumnRanges.{none-left, all-left}
+use Rattle.checking.proofs.ColumnRanges.{all-left}
 use Rattle.checking.proofs.Partnered.{same-subjects, rows-left}
+use borrow.Author.Needs.{needs}
 use Rattle.checking.proofs.partners.count_partnered.Statement.{statement}
 use Rattle.checking.proofs.partners.count_partnered.Tie as tie
 
@@ -61,63 +60,45 @@ mul-partner-highest c = search needs
 element-copy-out-partner-highest : tie.Need-element-copy-out-partner-highest
 element-copy-out-partner-highest c = search needs
 
+add-if1 : tie.Need-add-if1
+add-if1 c = search needs
+
+mul-if1 : tie.Need-mul-if1
+mul-if1 c = search needs
+
+element-copy-out-if1 : tie.Need-element-copy-out-if1
+element-copy-out-if1 c = search needs
+
 returns : tie.Need-returns
 unfolding leftOf
 returns c =
-    let s = c .before .before .before .before .before .before .before in
+    let s = c .before .before .before .before .before .before .before .before .before .before in
     let a = s .args in
     let o = a .o in
-    sym (none-left (a .w .now) (a .ranges .now) (6 * a .p + 3 * o .own) (6 * a .q + 3 * o .other) (o .start) (o .rows) (o .own) (o .against) (o .partners) (o .other) (s .pre .0 .2) (s .pre .0 .0)
-    (s .pre .1 .2) (s .pre .1 .3) (inl (c .if1 .taken)) (o .rows) (le-refl _))
-
-returns-2 : tie.Need-returns-2
-unfolding leftOf
-returns-2 c =
-    let s = c .before .before .before .before .before .before .before .before in
-    let a = s .args in
-    let o = a .o in
-    sym (none-left (a .w .now) (a .ranges .now) (6 * a .p + 3 * o .own) (6 * a .q + 3 * o .other) (o .start) (o .rows) (o .own) (o .against) (o .partners) (o .other) (s .pre .0 .2) (s .pre .0 .0)
-    (s .pre .1 .2) (s .pre .1 .3) (inr (c .if2 .taken)) (o .rows) (le-refl _))
-
-add-if3 : tie.Need-add-if3
-add-if3 c = search needs
-
-mul-if3 : tie.Need-mul-if3
-mul-if3 c = search needs
-
-element-copy-out-if3 : tie.Need-element-copy-out-if3
-element-copy-out-if3 c = search needs
-
-returns-3 : tie.Need-returns-3
-unfolding leftOf
-returns-3 c =
-    let s = c .before .before .before .before .before .before .before .before .before .before .before .before in
-    let a = s .args in
-    let o = a .o in
-    sym (all-left (a .w .now) (a .ranges .now) (6 * a .p + 3 * o .own) (6 * a .q + 3 * o .other) (o .start) (o .rows) (o .own) (o .against) (o .partners) (o .other) (s .pre .0 .2) (s .pre .0 .0)
-    (s .pre .1 .2) (s .pre .1 .3) (c .before .before .if3 .taken) (leb-true _ _ (c .before .if4 .taken)) (leb-true _ _ (c .if5 .taken)) (o .rows) (le-refl _))
+    sym (all-left (a .w .now) (a .ranges .now) (6 * a .p + 3 * a .own) (6 * a .q + 3 * a .other) (o .start) (o .rows) (a .own) (o .against) (o .partners) (a .other) (s .pre .0 .2) (s .pre .0 .0)
+    (s .pre .1 .2) (s .pre .1 .3) (c .before .before .if1 .taken) (leb-true _ _ (c .before .if2 .taken)) (leb-true _ _ (c .if3 .taken)) (o .rows) (le-refl _))
 
 count-words-requires : tie.Need-count-words-requires
 count-words-requires c κs = search needs
 
-returns-4 : tie.Need-returns-4
-returns-4 c =
-    let s = c .before .before .before .before .before .before .before .before .before .before .before .before in
-    rw (c .before .if6 .taken) (c .count-words .ensures ∙ ap length (rows-left _ _ _ _ (s .args .o .own) 0 _ _ (λ x. same-subjects _ _ _ x (s .pre .0 .1 .inside))))
+returns-2 : tie.Need-returns-2
+returns-2 c =
+    let s = c .before .before .before .before .before .before .before .before .before .before in
+    rw (c .before .if4 .taken) (c .count-words .ensures ∙ ap length (rows-left _ _ _ _ (s .args .own) 0 _ _ (λ x. same-subjects _ _ _ x (s .pre .0 .1 .inside))))
 
 sub-count-words : tie.Need-sub-count-words
 sub-count-words c = search needs
 
 count-words-requires-2 : tie.Need-count-words-requires-2
 count-words-requires-2 c κs =
-    let pre = c .before .before .before .before .before .before .before .before .before .before .before .before .pre .0 in
-    (pre .0, pre .2, omega arith, omega (arith, pre .1 .copied), pre .1 .objects-ascend)
+    let pre = c .before .before .before .before .before .before .before .before .before .before .pre .0 in
+    (pre .0, pre .2, omega arith, omega (arith, pre .1 .copied), pre .4 (omega (arith, pre .3, c .before .if4 .left)) .objects-ascend)
 
-returns-5 : tie.Need-returns-5
-returns-5 c =
-    let s = c .before .before .before .before .before .before .before .before .before .before .before .before .before in
-    let object : s .args .o .other ≡ 1 = omega (arith, s .pre .0 .3, c .before .before .if6 .left) in
-    rw object (c .count-words2 .ensures ∙ ap length (rows-left _ _ _ _ (s .args .o .own) 1 _ _ (s .pre .0 .1 .same-objects)))
+returns-3 : tie.Need-returns-3
+returns-3 c =
+    let s = c .before .before .before .before .before .before .before .before .before .before .before in
+    let object : s .args .other ≡ 1 = omega (arith, s .pre .0 .3, c .before .before .if4 .left) in
+    rw object (c .count-words2 .ensures ∙ ap length (rows-left _ _ _ _ (s .args .own) 1 _ _ (s .pre .0 .4 object .same-objects)))
 
 pub count-partnered-spec : {M : Type 1} → statement M
 count-partnered-spec =
@@ -139,14 +120,12 @@ count-partnered-spec =
     add-partner-highest
     mul-partner-highest
     element-copy-out-partner-highest
+    add-if1
+    mul-if1
+    element-copy-out-if1
     returns
-    returns-2
-    add-if3
-    mul-if3
-    element-copy-out-if3
-    returns-3
     count-words-requires
-    returns-4
+    returns-2
     sub-count-words
     count-words-requires-2
-    returns-5)
+    returns-3)

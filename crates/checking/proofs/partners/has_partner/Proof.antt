@@ -18,13 +18,15 @@ sub-has-word : tie.Need-sub-has-word
 sub-has-word c = search needs
 
 has-word-requires-2 : tie.Need-has-word-requires-2
-has-word-requires-2 c κs = search needs
+has-word-requires-2 c κs =
+    let start = c .before .before .before in
+    (omega arith, omega (arith, start .pre .0 .copied), start .pre .2 (omega arith) .objects-ascend)
 
 returns-2 : tie.Need-returns-2
 returns-2 c =
     let start = c .before .before .before .before in
     let objects : start .args .column ≡ 1 = omega arith in
-    c .has-word2 .ensures ∙ rw objects (start .pre .0 .same-objects _)
+    c .has-word2 .ensures ∙ rw objects (start .pre .2 objects .same-objects _)
 
 pub has-partner-spec : {M : Type 1} → statement M
 has-partner-spec =

@@ -1,41 +1,36 @@
 -- The tables one by one. The invariant: the ranges of each table passed are written.
 use Prim.Native.Nat.{ℕ, _+_, _*_, _-_, _≤_}
 use native.Mathlib.Omega.{arith}
-use mathlib.Core.Path.{_≡_, sym, ap, _∙_, subst}
+use mathlib.Core.Path.{_≡_, ap, _∙_}
 use lib.ListN.{length, getD, length-set}
-use Rattle.tables.proofs.Images.{few-predicates, entries-inside}
-use Rattle.checking.specs.Searching.{Searchable}
+use Rattle.tables.proofs.Images.{few-predicates, entries-inside, table-in}
 use Rattle.checking.specs.Ranges.{AllMeasured}
 use Rattle.checking.proofs.ColumnRanges.{range-same, table-measured}
 use Rattle.checking.proofs.Partnered.{same-subjects}
+use Rattle.checking.proofs.SearchableTables.{ascending}
 use Rattle.checking.proofs.ranges.measure_columns.Statement.{statement}
 use Rattle.checking.proofs.ranges.measure_columns.Tie as tie
 
 abbrev Inv-loop : tie.InvT-loop
-Inv-loop w objects first count ranges₀ i₀ ranges i = (i ≤ count) × (length ranges ≡ 96) × AllMeasured w ranges i
+Inv-loop w count ranges₀ i₀ ranges i = (i ≤ count) × (length ranges ≡ 96) × AllMeasured w ranges i
 
 abbrev μ-loop : tie.MeasureT-loop
-μ-loop w objects first count ranges₀ i₀ ranges i = count - i
+μ-loop w count ranges₀ i₀ ranges i = count - i
 
 module _ (c : tie.In-loop Inv-loop μ-loop) where
   abbrev start : tie.Start Inv-loop μ-loop
-  start = c .before .before .before .before
+  start = c .before .before .before
 
   -- the words are an image of few predicates
   few : start .args .count ≤ 16
   few = few-predicates (start .pre .0)
 
-  -- table i can be searched
-  searchable : let w = start .args .w .now in let i = c .before .loop .i in
-      Searchable w (start .args .objects .now) (start .args .first) (getD w (3 + 3 * i + 2) 0) (getD w (3 + 3 * i + 1) 0)
-  searchable =
-      let w = start .args .w .now in
-      let i = c .before .loop .i in
-      subst (λ (first : ℕ). Searchable w (start .args .objects .now) first (getD w (3 + 3 * i + 2) 0) (getD w (3 + 3 * i + 1) 0)) (sym (start .pre .2))
-      (start .pre .1 i (c .loop-test .taken))
+  -- and table i stands in it
+  inside : let w = start .args .w .now in let i = c .before .loop .i in getD w (3 + 3 * i + 2) 0 + 2 * getD w (3 + 3 * i + 1) 0 ≤ length w
+  inside = table-in (start .pre .0) _ (c .loop-test .taken) .inside
 
 loop-holds : tie.Need-loop-holds Inv-loop μ-loop
-loop-holds c = (omega arith, c .before .before .pre .3, λ i h. absurd (omega arith))
+loop-holds c = (omega arith, c .before .pre .1, λ i h. absurd (omega arith))
 
 mul-n : tie.Need-mul-n Inv-loop μ-loop
 mul-n c = omega (arith, few c)
@@ -53,7 +48,7 @@ shared-slice-read-n : tie.Need-shared-slice-read-n Inv-loop μ-loop
 shared-slice-read-n c = omega (arith, entries-inside (start (c .before) .pre .0))
 
 cast-n : tie.Need-cast-n Inv-loop μ-loop
-cast-n c = omega (arith, c .shared-slice-known3 .given (3 + 3 * c .before .before .loop .i + 1))
+cast-n c = omega (arith, c .shared-slice-known2 .given (3 + 3 * c .before .before .loop .i + 1))
 
 mul-start : tie.Need-mul-start Inv-loop μ-loop
 mul-start c = omega (arith, few (c .before))
@@ -71,12 +66,10 @@ shared-slice-read-start : tie.Need-shared-slice-read-start Inv-loop μ-loop
 shared-slice-read-start c = omega (arith, entries-inside (start (c .before .before) .pre .0))
 
 cast-start : tie.Need-cast-start Inv-loop μ-loop
-cast-start c = omega (arith, c .shared-slice-known4 .given (3 + 3 * c .before .before .before .loop .i + 2))
+cast-start c = omega (arith, c .shared-slice-known3 .given (3 + 3 * c .before .before .before .loop .i + 2))
 
 range-of-requires : tie.Need-range-of-requires Inv-loop μ-loop
-range-of-requires c κs =
-    let table = searchable (c .before .before) in
-    (omega arith, table .inside, table .subjects-ascend)
+range-of-requires c κs = (omega arith, inside (c .before .before), ascending (start (c .before .before) .pre .0) _ (c .before .before .loop-test .taken))
 
 mul-put-range : tie.Need-mul-put-range Inv-loop μ-loop
 mul-put-range c = omega (arith, few (c .before .before .before .before))
@@ -84,13 +77,8 @@ mul-put-range c = omega (arith, few (c .before .before .before .before))
 put-range-requires : tie.Need-put-range-requires Inv-loop μ-loop
 put-range-requires c κs = (omega (arith, few (c .before .before .before .before)), c .before .before .before .before .before .loop .inv .1)
 
-sub-range-of : tie.Need-sub-range-of Inv-loop μ-loop
-sub-range-of c = omega (arith, searchable (c .before .before .before .before .before) .behind)
-
-range-of-requires-2 : tie.Need-range-of-requires-2 Inv-loop μ-loop
-range-of-requires-2 c κs =
-    let table = searchable (c .before .before .before .before .before) in
-    (omega arith, omega (arith, table .copied), table .objects-ascend)
+object-range-requires : tie.Need-object-range-requires Inv-loop μ-loop
+object-range-requires c κs = inside (c .before .before .before .before .before)
 
 mul-put-range-2 : tie.Need-mul-put-range-2 Inv-loop μ-loop
 mul-put-range-2 c = omega (arith, few (c .before .before .before .before .before .before .before))
@@ -111,20 +99,18 @@ loop-less c = omega arith
 loop-again : tie.Need-loop-again Inv-loop μ-loop
 loop-again c =
     let turn = c .before .before .before .before .before .before .before .before in
-    let s = start turn in
     let inv = turn .before .loop .inv in
-    let table = searchable turn in
     let first = c .before .before .before .put-range in (
       omega arith,
       ap length (c .put-range2 .ensures) ∙ simp length-set (ap length (first .ensures) ∙ simp length-set (inv .1)),
       rw (c .put-range2 .ensures, first .ensures)
-          (table-measured (s .args .w .now) (turn .before .loop .ranges) (turn .before .loop .i) (omega (arith, few turn, inv .1)) (inv .2)
-          (range-same (λ x. same-subjects _ _ _ x (table .inside)) (c .before .before .before .before .before .range-of .ensures))
-          (range-same (table .same-objects) (c .before .before .range-of2 .ensures))),
+          (table-measured (start turn .args .w .now) (turn .before .loop .ranges) (turn .before .loop .i) (omega (arith, few turn, inv .1)) (inv .2)
+          (range-same (λ x. same-subjects _ _ _ x (inside turn)) (c .before .before .before .before .before .range-of .ensures))
+          (c .before .before .object-range .ensures)),
     )
 
 returns : tie.Need-returns Inv-loop μ-loop
-returns c = λ i h. c .before .loop .inv .2 i (omega arith)
+returns c = ((λ i h. c .before .loop .inv .2 i (omega arith)), c .before .loop .inv .1)
 
 pub measure-columns-spec : {M : Type 1} → statement M
 measure-columns-spec =
@@ -148,8 +134,7 @@ measure-columns-spec =
     range-of-requires
     mul-put-range
     put-range-requires
-    sub-range-of
-    range-of-requires-2
+    object-range-requires
     mul-put-range-2
     add-put-range
     put-range-requires-2

@@ -14,24 +14,24 @@ use Rattle.checking.proofs.semi_joins.semi_joins_hold_with.Statement.{s
 use Rattle.checking.proofs.semi_joins.semi_joins_hold_with.Tie as tie
 
 abbrev Inv-loop : tie.InvT-loop
-Inv-loop t w count first used objects rows marks here₀ p₀ q₀ k₀ here p q k = Turn count p q k × Joined t count w used here (semiJoinPlace count p q k)
+Inv-loop t w count first used objects rows ranges here₀ p₀ q₀ k₀ here p q k = Turn count p q k × Joined t count w used here (semiJoinPlace count p q k)
 
 abbrev μ-loop : tie.MeasureT-loop
-μ-loop t w count first used objects rows marks here₀ p₀ q₀ k₀ here p q k = count * (count * kindCount) - semiJoinPlace count p q k
-
-copy-objects-requires : tie.Need-copy-objects-requires Inv-loop μ-loop
-copy-objects-requires c κs = (c .before .before .before .pre .0, c .before .before .before .pre .5)
+μ-loop t w count first used objects rows ranges here₀ p₀ q₀ k₀ here p q k = count * (count * kindCount) - semiJoinPlace count p q k
 
 rows-start-requires : tie.Need-rows-start-requires Inv-loop μ-loop
-rows-start-requires c κs = few-predicates (c .before .before .before .before .before .before .pre .0)
+rows-start-requires c κs = few-predicates (c .before .before .pre .0)
 
 measure-columns-requires : tie.Need-measure-columns-requires Inv-loop μ-loop
-measure-columns-requires c κs =
-    let s = c .before .before .before .before .before .before .before .before .before in
-    (s .pre .0, c .before .before .before .before .before .copy-objects .ensures, c .before .before .rows-start .ensures, refl)
+measure-columns-requires c κs = (c .before .before .before .before .pre .0, refl)
+
+copy-objects-requires : tie.Need-copy-objects-requires Inv-loop μ-loop
+copy-objects-requires c κs =
+    let s = c .before .before .before .before .before .before .before in
+    (s .pre .0, s .pre .5, c .before .before .measure-columns .ensures .0, c .before .before .measure-columns .ensures .1)
 
 -- where the call began
-abbrev start : tie.After-measure-columns Inv-loop μ-loop → tie.Start Inv-loop μ-loop
+abbrev start : tie.After-slice-known2 Inv-loop μ-loop → tie.Start Inv-loop μ-loop
 start m = m .before .before .before .before .before .before .before .before .before .before
 
 loop-holds : tie.Need-loop-holds Inv-loop μ-loop
@@ -45,9 +45,10 @@ semi-join-end-requires c κs =
     let m = l .before in
     let s = start m in
     let inv = l .loop .inv in
+    let sorted = m .before .before .copy-objects .ensures in
     let below = c .before .before .loop-test .taken in (
       (s .pre .0, below, inv .0 .partner below, inv .0 .kind, s .pre .1, inv .1 .room, s .pre .4),
-      (m .before .before .before .before .before .before .copy-objects .ensures, m .measure-columns .ensures, m .before .before .before .rows-start .ensures),
+      (sorted .0, sorted .1, sorted .2, m .before .before .before .before .before .before .before .rows-start .ensures),
     )
 
 enum-known-next : tie.Need-enum-known-next Inv-loop μ-loop
@@ -137,9 +138,9 @@ semi-joins-hold-with-spec =
     (tie.spec
     Inv-loop
     μ-loop
-    copy-objects-requires
     rows-start-requires
     measure-columns-requires
+    copy-objects-requires
     loop-holds
     semi-join-end-requires
     enum-known-next
