@@ -49,6 +49,7 @@ pub fn semi_join_end(
     if rows < left {
         return Place::Wrong;
     }
+    // By the kind: where the partners' column is the object, the own one is the subject.
     let own = own_column(k);
     let other = partner_column(k);
     if columns_apart(ranges, 6 * p + 3 * own, 6 * q + 3 * other) {

@@ -1,23 +1,23 @@
 -- The tables one by one. The invariant: the subjects of each table passed are apart from the column.
-use Prim.Native.Nat.{ℕ, _*_, _-_, _≤_, _<_}
+use Prim.Native.Nat.{ℕ, _*_, _-_, _<_}
 use native.Mathlib.Omega.{arith}
 use mathlib.Core.Path.{_≡_, refl, sym, _∙_}
 use mathlib.Core.Bool.{true}
 use borrow.Author.Count.{below-more}
-use borrow.Author.Tests.{not-true, not-false}
+use borrow.Author.Tests.{not-false}
 use Rattle.model.proofs.Booleans.{not-both}
 use Rattle.checking.specs.Ranges.{apart}
 use Rattle.checking.proofs.ranges.is_reached.Statement.{statement}
 use Rattle.checking.proofs.ranges.is_reached.Tie as tie
 
 abbrev Inv-loop : tie.InvT-loop
-Inv-loop ranges count column p₀ p = (p ≤ count) × ((j : ℕ) → j < p → apart ranges (6 * j) column ≡ true)
+Inv-loop ranges count column p₀ p = (j : ℕ) → j < p → apart ranges (6 * j) column ≡ true
 
 abbrev μ-loop : tie.MeasureT-loop
 μ-loop ranges count column p₀ p = count - p
 
 loop-holds : tie.Need-loop-holds Inv-loop μ-loop
-loop-holds c = (omega arith, λ j h. absurd (omega arith))
+loop-holds c = λ j h. absurd (omega arith)
 
 mul-columns-apart : tie.Need-mul-columns-apart Inv-loop μ-loop
 mul-columns-apart c = omega (arith, c .before .before .pre .0)
@@ -37,10 +37,11 @@ loop-less c = omega arith
 loop-again : tie.Need-loop-again Inv-loop μ-loop
 loop-again c =
     let l = c .before .before .before in
-    (omega arith, below-more (λ j. apart (l .before .args .ranges .now) (6 * j) (l .before .args .column) ≡ true) (l .loop .p) (l .loop .inv .1) (sym (c .before .columns-apart .ensures) ∙ not-false _ (c .if1 .left)))
+    let apart-here = sym (c .before .columns-apart .ensures) ∙ not-false _ (c .if1 .left) in
+    below-more (λ j. apart (l .before .args .ranges .now) (6 * j) (l .before .args .column) ≡ true) (l .loop .p) (l .loop .inv) apart-here
 
 returns-2 : tie.Need-returns-2 Inv-loop μ-loop
-returns-2 c = λ p h e. not-both (c .before .loop .inv .1 p (omega arith)) e
+returns-2 c = λ p h e. not-both (c .before .loop .inv p (omega arith)) e
 
 pub is-reached-spec : {M : Type 1} → statement M
 is-reached-spec =
