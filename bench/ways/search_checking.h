@@ -21,14 +21,6 @@ static struct column column_of(const uint32_t *store, const uint32_t *objects, s
     return (struct column){objects + (entry[2] - rows_start(count)) / 2, 1, entry[1]};
 }
 
-static void copy_objects(const uint32_t *store, size_t count, uint32_t *objects) {
-    for (const uint32_t *entry = store + 3; entry < store + 3 + 3 * count; entry += 3) {
-        uint32_t *to = objects + (entry[2] - rows_start(count)) / 2;
-        for (size_t i = 0; i < entry[1]; i++) to[i] = store[entry[2] + 2 * i + 1];
-        sort_rows(to, 1, entry[1]);
-    }
-}
-
 /* Each word is at most one above the one before: no value between the first and the last is missing. */
 static bool is_gapless(struct column column) {
     for (size_t i = 1; i < column.n; i++)
@@ -36,20 +28,53 @@ static bool is_gapless(struct column column) {
     return true;
 }
 
-static void mark_gapless(const uint32_t *store, const uint32_t *objects, size_t count, bool marks[2 * MOST_PREDICATES]) {
-    for (size_t i = 0; i < 2 * count; i++) marks[i] = is_gapless(column_of(store, objects, count, i / 2, i % 2));
+/* The values of a column: the lowest, the highest, and whether each number between them is a value too; of none it is empty. */
+struct range { uint32_t lowest, highest; bool whole; };
+
+static struct range range_of(struct column column) {
+    if (column.n == 0) return (struct range){1, 0, false};
+    return (struct range){column.words[0], column.words[column.stride * (column.n - 1)], is_gapless(column)};
 }
 
-static uint32_t lowest(struct column column) { return column.words[0]; }
-static uint32_t highest(struct column column) { return column.words[column.stride * (column.n - 1)]; }
-
-/* No value of one column is a value of the other, by their lowest and highest. */
-static bool columns_apart(struct column a, struct column b) {
-    return a.n == 0 || b.n == 0 || highest(a) < lowest(b) || highest(b) < lowest(a);
+/* Of the objects of a table, in no order. */
+static struct range object_range(const uint32_t *rows, size_t n) {
+    if (n == 0) return (struct range){1, 0, false};
+    struct range range = {rows[1], rows[1], false};
+    for (size_t i = 1; i < n; i++) {
+        const uint32_t value = rows[2 * i + 1];
+        if (value < range.lowest) range.lowest = value;
+        if (range.highest < value) range.highest = value;
+    }
+    return range;
 }
 
-static bool column_between(struct column own, struct column partners) {
-    return lowest(partners) <= lowest(own) && highest(own) <= highest(partners);
+/* What all semi-joins are checked by: the range of each column, and the objects that some table's subjects reach, in ascending order. */
+struct sorted { struct range ranges[2 * MOST_PREDICATES]; uint32_t objects[MOST_ROWS]; };
+
+static void measure_columns(const uint32_t *store, size_t count, struct sorted *sorted) {
+    for (size_t i = 0; i < count; i++) {
+        sorted->ranges[2 * i] = range_of(column_of(store, sorted->objects, count, i, 0));
+        sorted->ranges[2 * i + 1] = object_range(store + store[3 + 3 * i + 2], store[3 + 3 * i + 1]);
+    }
+}
+
+static bool columns_apart(const struct range *a, const struct range *b) { return a->highest < b->lowest || b->highest < a->lowest; }
+
+static bool is_reached(const struct sorted *sorted, size_t count, const struct range *objects) {
+    for (size_t p = 0; p < count; p++)
+        if (!columns_apart(&sorted->ranges[2 * p], objects)) return true;
+    return false;
+}
+
+static void copy_objects(const uint32_t *store, size_t count, struct sorted *sorted) {
+    for (size_t i = 0; i < count; i++) {
+        const uint32_t *entry = store + 3 + 3 * i;
+        uint32_t *to = sorted->objects + (entry[2] - rows_start(count)) / 2;
+        if (!is_reached(sorted, count, &sorted->ranges[2 * i + 1])) continue;
+        for (size_t r = 0; r < entry[1]; r++) to[r] = store[entry[2] + 2 * r + 1];
+        sort_rows(to, 1, entry[1]);
+        sorted->ranges[2 * i + 1].whole = is_gapless((struct column){to, 1, entry[1]});
+    }
 }
 
 static uint32_t count_words(const uint32_t *rows, size_t m, size_t own, struct column partners) {
@@ -68,34 +93,31 @@ static bool compare_partnered(const uint32_t *rows, size_t m, size_t own, struct
     return next == end;
 }
 
-/* The words that all semi-joins are checked against: the objects in ascending order, and which columns have no gaps. */
-struct sorted { uint32_t objects[MOST_ROWS]; bool gapless[2 * MOST_PREDICATES]; };
-
-static uint32_t count_partnered(const uint32_t *rows, size_t m, size_t k, struct column own, struct column partners, bool gapless) {
-    if (columns_apart(own, partners)) return 0;
-    if (gapless && column_between(own, partners)) return (uint32_t)m;
-    return count_words(rows, m, own_column[k], partners);
+/* All are left where the one range is within the other and that has no gaps; columns that are apart do not come here. */
+static uint32_t count_partnered(const uint32_t *rows, size_t m, size_t own, struct column partners, const struct range *a, const struct range *b) {
+    if (b->whole && b->lowest <= a->lowest && a->highest <= b->highest) return (uint32_t)m;
+    return count_words(rows, m, own, partners);
 }
 
 /* Where the stored rows of the semi-join of kind k of p against q end, if they begin at `here`; 0 where they or its entry are wrong. */
 static size_t semi_join_end(const uint32_t *store, const struct sorted *sorted, size_t count, size_t p, size_t q, size_t k, size_t here,
                             size_t used) {
     const uint32_t *entry = store + 3 + 3 * count + 2 * ((p * count + q) * KINDS + k), *rows = store + store[3 + 3 * p + 2];
-    const size_t m = store[3 + 3 * p + 1], end = here + 2 * (size_t)entry[0];
-    const struct column partners = column_of(store, sorted->objects, count, q, partner_column[k]);
+    const size_t m = store[3 + 3 * p + 1], end = here + 2 * (size_t)entry[0], own = own_column[k], other = partner_column[k];
+    const struct range *a = &sorted->ranges[2 * p + own], *b = &sorted->ranges[2 * q + other];
     if (entry[0] > m) return 0;
+    if (columns_apart(a, b)) return entry[0] == 0 && entry[1] == 0 ? here : 0;
+    const struct column partners = column_of(store, sorted->objects, count, q, other);
     if (is_stored(store[1], entry[0], (uint32_t)m))
-        return entry[1] == here && end <= used && compare_partnered(rows, m, own_column[k], partners, store + here, store + end) ? end : 0;
-    const struct column own = column_of(store, sorted->objects, count, p, own_column[k]);
-    const bool gapless = sorted->gapless[2 * q + partner_column[k]];
-    return entry[1] == 0 && count_partnered(rows, m, k, own, partners, gapless) == entry[0] ? here : 0;
+        return entry[1] == here && end <= used && compare_partnered(rows, m, own, partners, store + here, store + end) ? end : 0;
+    return entry[1] == 0 && count_partnered(rows, m, own, partners, a, b) == entry[0] ? here : 0;
 }
 
 static bool site_holds(const uint32_t *store, size_t count, size_t here, size_t used) {
     struct sorted sorted;
     if (!tables_proper(store, count)) return false;
-    copy_objects(store, count, sorted.objects);
-    mark_gapless(store, sorted.objects, count, sorted.gapless);
+    measure_columns(store, count, &sorted);
+    copy_objects(store, count, &sorted);
     for (size_t p = 0; p < count; p++)
         for (size_t q = 0; q < count; q++)
             for (size_t k = 0; k < KINDS; k++)
