@@ -10,7 +10,7 @@ use Rattle.model.specs.Lists.{sameWords}
 use Rattle.model.specs.Tables.{isStored}
 use Rattle.model.specs.Store.{Reduced, isKept, kept, tableWords}
 use Rattle.model.proofs.Booleans.{and-cases, and-make, to-false}
-use Rattle.checking.proofs.Comparing.{as-many}
+use Rattle.columns.proofs.Comparing.{as-many}
 use Rattle.checking.specs.Joins.{joinHolds}
 use Rattle.checking.specs.declared.entries.Place.{Place}
 use Rattle.checking.specs.declared.entries.Place.the-variants.{At, Wrong}

@@ -1,5 +1,2 @@
 -- What the functions of this crate are held to, in terms of the definitions.
 pub mod Joins
-pub mod Lookups
-pub mod Searching
-pub mod Ranges

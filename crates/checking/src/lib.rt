@@ -1,8 +1,4 @@
-// Question 10: whether words are what some site and some T give; and look-ups in words that are.
+// Question 10: whether words are what some site and some T give.
 pub mod entries;
-pub mod lookup;
-pub mod objects;
-pub mod partners;
-pub mod ranges;
 pub mod semi_joins;
 pub mod store;

@@ -12,8 +12,8 @@ use Rattle.model.specs.Planner.{planned}
 use Rattle.model.specs.Calls.{either, withPlan, plan}
 use Rattle.model.specs.declared.answer.Answer.the-variants.{Refused, Plan as PlanAnswer}
 use Rattle.model.specs.declared.answer.Planned.{Planned}
-use Rattle.checking.specs.Lookups.{Passed}
-use Rattle.checking.proofs.Lookups.{not-passed, passed-store}
+use Rattle.lookups.specs.Lookups.{Passed}
+use Rattle.lookups.proofs.Lookups.{not-passed, passed-store}
 use Rattle.patterns.specs.Members.{patternIn, PatternHolds}
 use Rattle.patterns.specs.Replies.{PatternReadAs, checkReply}
 use Rattle.patterns.specs.declared.pattern_reader.PatternRead.{PatternRead}

@@ -1,6 +1,6 @@
 ghost use mathlib.Core.Path.{_≡_};
 ghost use Rattle.model.specs.Store.{decoded};
-ghost use Rattle.checking.specs.Lookups.{Passed};
+ghost use Rattle.lookups.specs.Lookups.{Passed};
 ghost use Rattle.patterns.specs.Replies.{PatternReadAs, checkReply};
 use crate::pattern_reader::PatternRead;
 use crate::pattern_reader::pattern_refused;

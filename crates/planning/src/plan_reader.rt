@@ -1,7 +1,7 @@
 ghost use mathlib.Core.Path.{_≡_};
 ghost use Rattle.model.specs.PlanFile.{readPlan};
 ghost use Rattle.model.specs.Store.{decoded};
-ghost use Rattle.checking.specs.Lookups.{Passed};
+ghost use Rattle.lookups.specs.Lookups.{Passed};
 ghost use Rattle.patterns.specs.Members.{patternIn, PatternHolds};
 ghost use Rattle.planning.specs.Replies.{PlanReadAs};
 use crate::choosing::may_choose;

@@ -6,7 +6,7 @@ ghost use Rattle.model.specs.Calls.{planNumbers, withPlan, plan as planCall};
 ghost use Rattle.model.specs.Store.{decoded};
 ghost use Rattle.model.specs.declared.answer.Answer.the-variants.{Refused};
 ghost use mathlib.Core.List.{[]};
-ghost use Rattle.checking.specs.Lookups.{Passed};
+ghost use Rattle.lookups.specs.Lookups.{Passed};
 ghost use Rattle.patterns.specs.Members.{patternIn, PatternHolds};
 ghost use Rattle.planning.specs.Choices.{TablesChosen};
 use crate::choosing::choose_table;

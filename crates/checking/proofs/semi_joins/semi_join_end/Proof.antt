@@ -17,13 +17,13 @@ use Rattle.model.specs.Store.{Reduced, rowsIn, tableWords}
 use Rattle.model.proofs.Booleans.{not-both, or-cases}
 use Rattle.tables.specs.Columns.{columnOf, kindOfColumns}
 use Rattle.tables.specs.SiteWords.{siteIn, reducedAt, semiJoinPlace}
-use Rattle.checking.specs.Searching.{Searchable, ObjectsSorted}
-use Rattle.checking.specs.Ranges.{ColumnRange, apart}
+use Rattle.columns.specs.Searching.{Searchable, ObjectsSorted}
+use Rattle.columns.specs.Ranges.{ColumnRange, apart}
 use Rattle.tables.proofs.Images.{few-predicates, entries-inside}
 use Rattle.tables.proofs.Entries.{place-below, operands-of, counted-of, left-fewer}
 use Rattle.tables.proofs.Partners.{leftOf}
 use Rattle.checking.specs.declared.entries.Place.{Place}
-use Rattle.checking.proofs.ColumnRanges.{none-left}
+use Rattle.columns.proofs.ColumnRanges.{none-left}
 use Rattle.checking.proofs.Join.{end, ends-wrong, stored, ends-stored, not-stored, ends-not-stored}
 use borrow.Author.Needs.{needs}
 use Rattle.checking.proofs.semi_joins.semi_join_end.Statement.{statement}

@@ -3,7 +3,7 @@ use native.Mathlib.Omega.{arith}
 use mathlib.Core.Path.{sym, _∙_}
 use borrow.Author.Needs.{needs}
 use borrow.Author.Tests.{not-true, not-false}
-use Rattle.checking.specs.Lookups.{Passed}
+use Rattle.lookups.specs.Lookups.{Passed}
 use Rattle.patterns.proofs.CheckReplies.{no-store, store-passed}
 use Rattle.patterns.proofs.questions.read_check.Statement.{statement}
 use Rattle.patterns.proofs.questions.read_check.Tie as tie

@@ -6,7 +6,7 @@ use borrow.Author.Tests.{not-true, not-false}
 use Rattle.model.specs.Store.{decoded}
 use Rattle.planning.specs.Choices.{chooseableTable}
 use Rattle.planning.specs.declared.choosing.Chooseable.the-variants.{Rows, Nothing}
-use Rattle.checking.proofs.Lookups.{passed-threshold, passed-site}
+use Rattle.lookups.proofs.Lookups.{passed-threshold, passed-site}
 use Rattle.planning.proofs.Chooseable.{table-few, left-few, open-by}
 use Rattle.planning.proofs.choosing.reduced_table.Statement.{statement}
 use Rattle.planning.proofs.choosing.reduced_table.Tie as tie

@@ -1,0 +1,6 @@
+-- The laws the proofs of this crate rest on.
+pub mod Comparing
+pub mod Partnered
+pub mod ColumnRanges
+pub mod SortedObjects
+pub mod SearchableTables

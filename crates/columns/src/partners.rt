@@ -1,0 +1,135 @@
+ghost use mathlib.Core.Path.{_≡_};
+ghost use Prim.Native.Nat.{_<_, _≤_, _+_, _*_};
+ghost use lib.ListN.{length, take, drop};
+ghost use lib.Dec.{eqb};
+ghost use Rattle.model.specs.Lists.{any, sameWords};
+ghost use Rattle.model.specs.Site.{mostPredicates};
+ghost use Rattle.model.specs.Tables.{at, semiJoin};
+ghost use Rattle.model.specs.Store.{rowsIn, tableWords};
+ghost use Rattle.tables.specs.Columns.{columnOf, kindOfColumns};
+ghost use Rattle.rows.specs.Search.{Ascending};
+ghost use Rattle.columns.specs.Searching.{Searchable, ObjectsSorted, rowsWith};
+ghost use Rattle.columns.specs.Ranges.{ColumnRange};
+use rows::search::has_word;
+use tables::operands::Operands;
+
+// Whether some of the n rows at `start` has a value at a column: by search in the rows where it is the subject, else in their objects'
+// sorted copy, which has a word for each row behind `first`.
+pub fn has_partner(
+    w: &[u32],
+    objects: &[u32],
+    first: usize,
+    start: usize,
+    n: usize,
+    column: usize,
+    value: u32,
+) -> bool
+    requires { ⌜ Searchable (now w) (now objects) first start n × (column < 2) × (column ≡ 1 → ObjectsSorted (now w) (now objects) first start n) ⌝ }
+    ensures { λ r. ⌜ r ≡ any (λ s. eqb value (at (columnOf column) s)) (rowsIn n (drop start (now (w .entry)))) ⌝ }
+{
+    if column == 0 {
+        return has_word(w, start, 2, n, value);
+    }
+    has_word(objects, (start - first) / 2, 1, n, value)
+}
+
+// How many of the m rows at p have, in column `own`, a value that one of n ascending words has.
+fn count_words(
+    w: &[u32],
+    p: usize,
+    m: usize,
+    own: usize,
+    words: &[u32],
+    base: usize,
+    stride: usize,
+    n: usize,
+) -> usize
+    requires { ⌜ (p + 2 * m ≤ length (now w)) × (own < 2) × (0 < stride) × (base + stride * n ≤ length (now words)) × Ascending (now words) base stride n ⌝ }
+    ensures { λ r. ⌜ r ≡ length (rowsWith (now (words .entry)) base stride n own (rowsIn m (drop p (now (w .entry))))) ⌝ }
+{
+    let mut kept: usize = 0;
+    for i in 0..m {
+        let value = w[p + 2 * i + own];
+        if has_word(words, base, stride, n, value) {
+            kept += 1;
+        }
+    }
+    kept
+}
+
+// How many rows a semi-join of predicate p against q leaves, by the columns that are compared. By their ranges all may be left; else which
+// words are searched is decided once, before the rows.
+pub fn count_partnered(
+    w: &[u32],
+    objects: &[u32],
+    first: usize,
+    ranges: &[u32; 96],
+    p: usize,
+    q: usize,
+    o: Operands,
+    own: usize,
+    other: usize,
+) -> usize
+    requires { ⌜ (o .start + 2 * o .rows ≤ length (now w)) × Searchable (now w) (now objects) first (o .against) (o .partners) × (own < 2) × (other < 2) × (other ≡ 1 → ObjectsSorted (now w) (now objects) first (o .against) (o .partners)) ⌝ }
+    requires { ⌜ (p < mostPredicates) × (q < mostPredicates) × ColumnRange (now w) (o .start) (o .rows) own (now ranges) (6 * p + 3 * own) × ColumnRange (now w) (o .against) (o .partners) other (now ranges) (6 * q + 3 * other) ⌝ }
+    ensures { λ r. ⌜ r ≡ length (semiJoin (kindOfColumns own other) (rowsIn (o .rows) (drop (o .start) (now (w .entry)))) (rowsIn (o .partners) (drop (o .against) (now (w .entry))))) ⌝ }
+{
+    let a = 6 * p + 3 * own;
+    let b = 6 * q + 3 * other;
+    let lowest = ranges[a];
+    let highest = ranges[a + 1];
+    let partner_lowest = ranges[b];
+    let partner_highest = ranges[b + 1];
+    if ranges[b + 2] == 1 && partner_lowest <= lowest && highest <= partner_highest {
+        return o.rows;
+    }
+    if other == 0 {
+        return count_words(w, o.start, o.rows, own, w, o.against, 2, o.partners);
+    }
+    count_words(
+        w,
+        o.start,
+        o.rows,
+        own,
+        objects,
+        (o.against - first) / 2,
+        1,
+        o.partners,
+    )
+}
+
+// Whether the k rows at `at` are those that are left, in their order.
+pub fn compare_partnered(
+    w: &[u32],
+    objects: &[u32],
+    first: usize,
+    p: usize,
+    m: usize,
+    own: usize,
+    q: usize,
+    n: usize,
+    other: usize,
+    at: usize,
+    k: usize,
+) -> bool
+    requires { ⌜ (p + 2 * m ≤ length (now w)) × Searchable (now w) (now objects) first q n × (own < 2) × (other < 2) ⌝ }
+    requires { ⌜ (at + 2 * k ≤ length (now w)) × (other ≡ 1 → ObjectsSorted (now w) (now objects) first q n) ⌝ }
+    ensures { λ r. ⌜ r ≡ sameWords (take (2 * k) (drop at (now (w .entry)))) (tableWords (semiJoin (kindOfColumns own other) (rowsIn m (drop p (now (w .entry)))) (rowsIn n (drop q (now (w .entry)))))) ⌝ }
+{
+    let end = at + 2 * k;
+    let mut next = at;
+    for i in 0..m {
+        let row = p + 2 * i;
+        let value = w[row + own];
+        if has_partner(w, objects, first, q, n, other, value) {
+            if next == end {
+                return false;
+            }
+            if w[next] != w[row] || w[next + 1] != w[row + 1] {
+                return false;
+            }
+            next += 2;
+        }
+    }
+    next == end
+}

@@ -1,0 +1,2 @@
+-- The laws the proofs of this crate rest on.
+pub mod Lookups
