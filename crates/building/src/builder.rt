@@ -10,6 +10,7 @@ use crate::site_reader::IMAGE_WORDS;
 use crate::site_reader::SiteRead;
 use crate::site_reader::read_site;
 use model::answer::Answer;
+use tables::copying::copy_words;
 use tables::kinds::KINDS;
 use tables::kinds::is_stored;
 use tables::limits::MOST_THRESHOLD;
@@ -55,16 +56,6 @@ fn fill_entries(t: usize, count: usize, image: &mut [u32], first: usize) -> usiz
     here
 }
 
-// The first n words of an image, over the front of the store.
-fn copy_words(image: &[u32], store: &mut [u32], n: usize)
-    requires { ⌜ (n ≤ length (now image)) × (n ≤ length (now store)) ⌝ }
-    ensures { λ _. ⌜ now (store .exit) ≡ sets (now (store .entry)) 0 (take n (now (image .entry))) ⌝ }
-{
-    for i in 0..n {
-        store[i] = image[i];
-    }
-}
-
 // The rows of the stored tables, from `first` on.
 fn write_stored(t: usize, count: usize, image: &[u32], store: &mut [u32], first: usize)
     requires { ⌜ ImageOf count (now image) × (t ≤ mostThreshold) × CountsIn count (now image) ⌝ }
@@ -105,7 +96,7 @@ fn fill_store(t: u32, count: usize, image: &mut [u32], store: &mut [u32]) -> Ans
     image[0] = count as u32;
     image[1] = t;
     image[2] = used as u32;
-    copy_words(image, store, first);
+    copy_words(image, 0, first, store);
     write_stored(threshold, count, image, store, first);
     Answer::Built(used as u32)
 }

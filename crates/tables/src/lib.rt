@@ -1,4 +1,5 @@
 // Numbers in bytes, and rows and semi-joins in words.
+pub mod copying;
 pub mod kinds;
 pub mod limits;
 pub mod number;
