@@ -5,5 +5,6 @@ pub mod Variables
 pub mod RowResults
 pub mod Exchanges
 pub mod PlanRows
+pub mod TableRows
 pub mod Rearranged
 pub mod RunReplies

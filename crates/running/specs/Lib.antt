@@ -2,3 +2,4 @@
 pub mod Emptiness
 pub mod Chosen
 pub mod Arranged
+pub mod WholeTable
