@@ -2,10 +2,10 @@
 use Prim.Native.Nat.{ℕ, suc, _+_, _*_, _^_, _≤_, _<_}
 use native.Mathlib.Nat.{zero-add}
 use native.Mathlib.Omega.{arith}
-use mathlib.Core.Path.{_≡_, refl, sym, ap, _∙_, subst}
+use mathlib.Core.Path.{_≡_, sym, ap, _∙_, subst}
 use mathlib.Core.List.{List, [], _∷_, _++_}
 use lib.ListN.{length, getD, take, length-append}
-use lib.Seq.{sets, length-sets, sets-eq}
+use lib.Seq.{sets, length-sets}
 use Rattle.model.specs.Site.{Table, Site, rowTotal}
 use Rattle.model.specs.Tables.{kindCount}
 use Rattle.model.specs.Store.{semiJoins, rowsStart, vpEntries, semiJoinEntries, storedStart, vpWords, keptWords, layout}
@@ -14,7 +14,7 @@ use Rattle.model.proofs.Blocks.{Block, block-at, take-block, getD-block, joined
 use Rattle.model.proofs.StoreLayout.{length-vp-entries, length-semi-join-entries, front, length-before-kept, length-layout, layout-parts}
 use Rattle.model.proofs.StoreSize.{store-fits}
 use Rattle.tables.specs.SiteWords.{siteIn, ImageHolds, ImageOf, CountsIn}
-use Rattle.tables.proofs.Setting.{sets-append, drop-sets, sets-block, part-block}
+use Rattle.tables.proofs.Setting.{sets-append, drop-sets, sets-block, part-block, sets-over}
 use Rattle.tables.proofs.Images.{entries-inside}
 use Rattle.building.proofs.Filling.{image-fronted, counts-fronted}
 
@@ -122,10 +122,6 @@ module _ (t : ℕ) {count : ℕ} {image : List ℕ} (o : ImageOf count image) wh
   }
 
 -- ---- the store
-
--- words set from the first place on
-sets-over : (words memory : List ℕ) → length words ≤ length memory → sets memory 0 words ≡ over words memory
-sets-over words memory h = let z = zero-add (length words) in sets-eq words memory 0 (omega arith) ∙ rw z refl
 
 -- the front, and the stored tables' rows behind it
 pub store-over : (t : ℕ) (site : Site) (memory : List ℕ) → length (layout t site) ≤ length memory

@@ -13,14 +13,15 @@ use Rattle.model.specs.Lists.{all, sum, sameWords}
 use Rattle.model.specs.SiteFile.{Declaration, declaredProper, declarationOf}
 use Rattle.model.specs.Site.{Site, isSite, rowTotal, predicatesProper, rowsProper, mostPredicates, mostRows}
 use Rattle.model.specs.Tables.{kindCount, mostThreshold}
-use Rattle.model.specs.Store.{semiJoins, tableWords, vpEntries, semiJoinEntries, rowsStart, storedStart, vpWords, keptWords, layout, wordsUsed, Holds, rowsIn, tablesIn, decoded, isStoreOf}
+use Rattle.model.specs.Store.{semiJoins, vpEntries, semiJoinEntries, rowsStart, storedStart, vpWords, keptWords, layout, wordsUsed, Holds, tablesIn, decoded, isStoreOf}
 use Rattle.model.proofs.Booleans.{and-cases, and-make, bool-ext}
 use Rattle.model.proofs.Partition.{proper}
 use Rattle.model.proofs.SiteFile.{declared-site, sum-map}
 use Rattle.model.proofs.Blocks.{Block, block-at, longer-block, drop-block, take-block, joined-block}
-use Rattle.model.proofs.StoreLayout.{length-table, length-all, length-vp-entries, length-semi-join-entries, front, length-before-kept, layout-used, length-layout, layout-parts, vp-entries-block}
+use Rattle.model.proofs.StoreLayout.{length-all, length-vp-entries, length-semi-join-entries, front, length-before-kept, layout-used, length-layout, layout-parts, vp-entries-block}
 use Rattle.model.proofs.Stores.{same-words, words-same, first-words}
 use Rattle.tables.specs.SiteWords.{declaredEntries, declaredIn, declaredRows, entriesProper, siteIn, ImageHolds, ImageOf}
+use Rattle.tables.proofs.Rows.{rows-words, length-rows}
 use Rattle.tables.proofs.Declared.{length-declaredIn, declared-vp}
 use Rattle.tables.proofs.Setting.{part-block}
 use Rattle.tables.proofs.Images.{image-of}
@@ -112,19 +113,6 @@ parts w e =
     }
 
 -- ---- the site that the entries declare
-
-rows-words : (n : ℕ) (words : List ℕ) → 2 * n ≤ length words → tableWords (rowsIn n words) ≡ take (2 * n) words
-rows-words zero words h = refl
-rows-words (suc n) [] h = absurd (omega arith)
-rows-words (suc n) (s ∷ []) h = absurd (omega arith)
-rows-words (suc n) (s ∷ o ∷ words) h =
-    let e : 2 * suc n ≡ suc (suc (2 * n)) = omega arith in
-    rw (e, rows-words n words (omega arith)) refl
-
-length-rows : (n : ℕ) (words : List ℕ) → 2 * n ≤ length words → length (rowsIn n words) ≡ n
-length-rows n words h =
-    let e = sym (length-table (rowsIn n words)) ∙ ap length (rows-words n words h) ∙ length-take-le (2 * n) words h in
-    omega arith
 
 -- the tables of entries whose rows are all there
 tables-declared : (k : ℕ) (entries words : List ℕ) → declaredRows k entries ≤ mostRows → 2 * declaredRows k entries ≤ length words

@@ -5,3 +5,4 @@ pub mod Join
 pub mod Joined
 pub mod Turns
 pub mod Decoding
+pub mod EmptyPairs

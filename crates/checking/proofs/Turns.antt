@@ -26,6 +26,10 @@ last-turn {count} {p} {q} {k} turn h =
     let (no-partner, no-kind) = turn .behind h in
     rw (all, no-partner, no-kind) (omega arith)
 
+-- the last kind of the same tables
+pub last-kind : {count p q k : ℕ} → Turn count p q k → p < count → Turn count p q 2
+last-kind turn h = record { own = turn .own; partner = turn .partner; kind = omega arith; behind = λ b. absurd (omega arith) }
+
 -- the kind after k, and with it the partner after q where k is the last
 abbrev pub Onward : ℕ → ℕ → ℕ → ℕ → Type 0
 Onward q k partner kind =

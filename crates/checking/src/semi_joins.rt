@@ -1,14 +1,14 @@
 ghost use mathlib.Core.Path.{_≡_};
-ghost use Prim.Native.Nat.{_<_, _≤_, _+_, _*_};
-ghost use mathlib.Core.Bool.{cond};
-ghost use lib.ListN.{length};
+ghost use Prim.Native.Nat.{ℕ, _<_, _≤_, _+_, _*_};
+ghost use mathlib.Core.Bool.{true, cond};
+ghost use lib.ListN.{length, getD};
 ghost use Rattle.model.specs.Site.{rowTotal};
 ghost use Rattle.model.specs.Tables.{kindCount, mostThreshold};
 ghost use Rattle.model.specs.Store.{kept, rowsStart, storedStart};
 ghost use Rattle.tables.specs.SiteWords.{siteIn, ImageOf, reducedAt, semiJoinPlace};
 ghost use Rattle.columns.specs.Searching.{AllSearchable, AllSorted};
 ghost use Rattle.columns.specs.Ranges.{AllMeasured};
-ghost use Rattle.checking.specs.Joins.{joinHolds, joinsHold};
+ghost use Rattle.checking.specs.Joins.{joinHolds, joinsHold, EmptyPair};
 ghost use Rattle.checking.specs.declared.entries.Place.the-variants.{At, Wrong};
 use crate::entries::Place;
 use columns::objects::copy_objects;
@@ -89,44 +89,82 @@ pub fn semi_join_end(
     Place::At(here)
 }
 
-// Whether the entries and the stored rows of all semi-joins are as they should be, and the last rows end at `used`; with a lent word for
-// the object of each row.
-fn semi_joins_hold_with(
+// Whether the n words from `start` on are 0; promised where it says so.
+fn are_zero(w: &[u32], start: usize, n: usize) -> bool
+    requires { ⌜ start + n ≤ length (now w) ⌝ }
+    ensures { λ r. ⌜ (r ≡ true → (i : ℕ) → i < n → getD (now (w .entry)) (start + i) 0 ≡ 0) ⌝ }
+{
+    for i in 0..n {
+        if w[start + i] != 0 {
+            return false;
+        }
+    }
+    true
+}
+
+// Whether, by the ranges, no semi-join of p against q leaves a row, and the entries say so: asked once for the kinds, at the first of them.
+fn is_empty_pair(w: &[u32], ranges: &[u32; 96], count: usize, p: usize, q: usize, k: usize) -> bool
+    requires { ⌜ ImageOf count (now w) × (p < count) × (q < count) × AllMeasured (now w) (now ranges) count ⌝ }
+    ensures { λ r. ⌜ (r ≡ true → (k ≡ 0) × EmptyPair count (now (w .entry)) p q) ⌝ }
+{
+    if k != 0 {
+        return false;
+    }
+    let a = 6 * p;
+    let b = 6 * q;
+    if !columns_apart(ranges, a, b) {
+        return false;
+    }
+    if !columns_apart(ranges, a + 3, b) {
+        return false;
+    }
+    if !columns_apart(ranges, a, b + 3) {
+        return false;
+    }
+    are_zero(w, 3 + 3 * count + 2 * ((p * count + q) * KINDS), 2 * KINDS)
+}
+
+// Whether the entries and the stored rows of all semi-joins are as they should be, and the last rows end at `used`.
+fn each_semi_join_holds(
     t: usize,
     w: &[u32],
+    objects: &[u32],
+    ranges: &[u32; 96],
     count: usize,
     first: usize,
     used: usize,
-    objects: &mut [u32],
 ) -> bool
-    requires { ⌜ ImageOf count (now w) × (t ≤ mostThreshold) × (first ≡ storedStart (siteIn count (now w))) × (first ≤ used) × (used ≤ length (now w)) × (rowTotal (siteIn count (now w)) ≤ length (now objects)) ⌝ }
+    requires { ⌜ ImageOf count (now w) × (t ≤ mostThreshold) × (first ≡ storedStart (siteIn count (now w))) × (first ≤ used) × (used ≤ length (now w)) ⌝ }
+    requires { ⌜ AllSearchable count (now w) (now objects) count × AllSorted count (now w) (now objects) (now ranges) count × AllMeasured (now w) (now ranges) count ⌝ }
     ensures { λ r. ⌜ r ≡ joinsHold t count (now (w .entry)) used ⌝ }
 {
     let rows = rows_start(count);
-    let mut ranges = [0u32; 96];
-    measure_columns(w, count, &mut ranges);
-    copy_objects(w, count, &mut ranges, objects);
     let mut here = first;
     let mut p: usize = 0;
     let mut q: usize = 0;
     let mut k: usize = 0;
     while p < count {
-        let Place::At(next) = semi_join_end(
-            t,
-            w,
-            objects,
-            &ranges,
-            rows,
-            count,
-            p,
-            q,
-            k,
-            here,
-            used,
-        ) else {
-            return false;
-        };
-        here = next;
+        if is_empty_pair(w, ranges, count, p, q, k) {
+            // All three hold.
+            k = KINDS - 1;
+        } else {
+            let Place::At(next) = semi_join_end(
+                t,
+                w,
+                objects,
+                ranges,
+                rows,
+                count,
+                p,
+                q,
+                k,
+                here,
+                used,
+            ) else {
+                return false;
+            };
+            here = next;
+        }
         // For each p, each q, each k.
         k += 1;
         if k == KINDS {
@@ -139,6 +177,24 @@ fn semi_joins_hold_with(
         }
     }
     here == used
+}
+
+// The same, with a lent word for the object of each row.
+fn semi_joins_hold_with(
+    t: usize,
+    w: &[u32],
+    count: usize,
+    first: usize,
+    used: usize,
+    objects: &mut [u32],
+) -> bool
+    requires { ⌜ ImageOf count (now w) × (t ≤ mostThreshold) × (first ≡ storedStart (siteIn count (now w))) × (first ≤ used) × (used ≤ length (now w)) × (rowTotal (siteIn count (now w)) ≤ length (now objects)) ⌝ }
+    ensures { λ r. ⌜ r ≡ joinsHold t count (now (w .entry)) used ⌝ }
+{
+    let mut ranges = [0u32; 96];
+    measure_columns(w, count, &mut ranges);
+    copy_objects(w, count, &mut ranges, objects);
+    each_semi_join_holds(t, w, objects, &ranges, count, first, used)
 }
 
 // The same, with words of its own: few for a small site, where to clear them all would cost more than the question.

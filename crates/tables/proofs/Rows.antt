@@ -3,10 +3,10 @@ use Prim.Native.Nat.{ℕ, zero, suc, _+_, _*_, _≤_}
 use native.Mathlib.Omega.{arith}
 use native.Mathlib.Nat.{add-zero, zero-add, suc-add}
 use native.Mathlib.Numerals.{add-one, add-two}
-use mathlib.Core.Path.{_≡_, refl}
+use mathlib.Core.Path.{_≡_, refl, sym, ap, _∙_}
 use mathlib.Core.List.{List, [], _∷_, _++_}
-use lib.ListN.{length, getD, drop, set, length-append}
-use lib.Seq.{drop-cons, sets, length-sets}
+use lib.ListN.{length, getD, take, drop, set, length-append}
+use lib.Seq.{drop-cons, length-take-le, sets, length-sets}
 use Rattle.model.specs.Site.{Row}
 use Rattle.model.specs.Store.{rowWords, tableWords, rowsIn}
 use Rattle.model.proofs.Blocks.{each-append}
@@ -30,6 +30,20 @@ rows-at w p (suc i) r h =
   where
     later : (k : ℕ) → p + 2 * suc k ≡ p + 2 + 2 * k
     later k = omega arith
+
+-- the words of n rows are the first 2n words
+pub rows-words : (n : ℕ) (words : List ℕ) → 2 * n ≤ length words → tableWords (rowsIn n words) ≡ take (2 * n) words
+rows-words zero words h = refl
+rows-words (suc n) [] h = absurd (omega arith)
+rows-words (suc n) (s ∷ []) h = absurd (omega arith)
+rows-words (suc n) (s ∷ o ∷ words) h =
+    let e : 2 * suc n ≡ suc (suc (2 * n)) = omega arith in
+    rw (e, rows-words n words (omega arith)) refl
+
+pub length-rows : (n : ℕ) (words : List ℕ) → 2 * n ≤ length words → length (rowsIn n words) ≡ n
+length-rows n words h =
+    let e = sym (length-table (rowsIn n words)) ∙ ap length (rows-words n words h) ∙ length-take-le (2 * n) words h in
+    omega arith
 
 -- rows are written from `to` on, and `next` is the place after them
 pub record Written (before : List ℕ) (to : ℕ) (rows : List Row) (out : List ℕ) (next : ℕ) : Type 0 where

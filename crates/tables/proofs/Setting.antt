@@ -1,12 +1,13 @@
 -- A list in which a run of elements is set: what stands beside the run, and what in it.
 use Prim.Native.Nat.{ℕ, suc, _+_, _-_, _<_, _≤_}
-use native.Mathlib.Nat.{add-zero}
+use native.Mathlib.Nat.{add-zero, zero-add}
 use native.Mathlib.Numerals.{add-one}
 use native.Mathlib.Omega.{arith}
 use mathlib.Core.Path.{_≡_, refl, sym, ap, _∙_}
 use mathlib.Core.List.{List, [], _∷_, _++_, append-assoc}
 use lib.ListN.{length, getD, take, drop, set, take-append-drop}
 use lib.Seq.{length-take-le, take-set-le, drop-set-lt, drop-set-add, getD-set-other, sets, sets-eq}
+use Rattle.model.specs.Calls.{over}
 use Rattle.model.proofs.Blocks.{Block}
 
 module _ {A : Type 0} where
@@ -62,3 +63,7 @@ module _ {A : Type 0} where
     whole = sym (take-append-drop i l) ∙ ap (λ (m : List A). take i l ++ m) (sym (take-append-drop n (drop i l)) ∙ ap (λ (m : List A). m ++ drop n (drop i l)) e);
     length-before = length-take-le i l h;
   }
+
+-- words set from the first place on
+pub sets-over : (words memory : List ℕ) → length words ≤ length memory → sets memory 0 words ≡ over words memory
+sets-over words memory h = let z = zero-add (length words) in sets-eq words memory 0 (omega arith) ∙ rw z refl

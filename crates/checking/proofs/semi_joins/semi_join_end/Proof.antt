@@ -1,29 +1,27 @@
 -- The entry stands inside; each way out answers as the test of the entry and of the rows does.
 use Prim.Native.Nat.{ℕ, zero, suc, _+_, _*_, _<_, _≤_}
-use native.Mathlib.Nat.{le-refl, le-trans}
+use native.Mathlib.Nat.{le-trans}
 use native.Mathlib.Omega.{arith}
 use mir.Facts.{fits-widen}
 use mathlib.Core.Path.{_≡_, refl, sym, ap, ap₂, _∙_, subst}
-use mathlib.Core.Logic.{⊎-elim, inl, inr}
+use mathlib.Core.Logic.{⊎-elim}
 use mathlib.Core.Bool.{true, false}
 use mathlib.Core.List.{List}
 use lib.ListN.{length, getD, take, drop}
-use lib.Dec.{ltb}
-use borrow.Author.Tests.{ltb-true, ltb-false, le-ltb, eqb-true, eqb-false, not-true, not-false}
+use borrow.Author.Tests.{ltb-false, le-ltb, eqb-true, eqb-false, not-true, not-false}
 use Rattle.model.specs.Lists.{sameWords}
 use Rattle.model.specs.Site.{Row}
 use Rattle.model.specs.Tables.{Kind, semiJoin, isStored, kindAt, kindCount}
 use Rattle.model.specs.Store.{Reduced, rowsIn, tableWords}
-use Rattle.model.proofs.Booleans.{not-both, or-cases}
+use Rattle.model.proofs.Booleans.{not-both}
 use Rattle.tables.specs.Columns.{columnOf, kindOfColumns}
 use Rattle.tables.specs.SiteWords.{siteIn, reducedAt, semiJoinPlace}
 use Rattle.columns.specs.Searching.{Searchable, ObjectsSorted}
 use Rattle.columns.specs.Ranges.{ColumnRange, apart}
 use Rattle.tables.proofs.Images.{few-predicates, entries-inside}
 use Rattle.tables.proofs.Entries.{place-below, operands-of, counted-of, left-fewer}
-use Rattle.tables.proofs.Partners.{leftOf}
 use Rattle.checking.specs.declared.entries.Place.{Place}
-use Rattle.columns.proofs.ColumnRanges.{none-left}
+use Rattle.checking.proofs.EmptyPairs.{apart-none, none-stored}
 use Rattle.checking.proofs.Join.{end, ends-wrong, stored, ends-stored, not-stored, ends-not-stored}
 use borrow.Author.Needs.{needs}
 use Rattle.checking.proofs.semi_joins.semi_join_end.Statement.{statement}
@@ -129,16 +127,9 @@ module _ (c : tie.After-partner-column) where
 
   -- none, if the columns are apart
   none : let s = start operands in apart (s .args .ranges .now) (6 * s .args .p + 3 * own) (6 * s .args .q + 3 * other) ≡ true → length (semiJoinOf s .rows) ≡ 0
-  unfolding leftOf
   none e =
       let s = start operands in
-      let o = operands .operands-of .result in
-      let ranges = s .args .ranges .now in
-      let a = 6 * s .args .p + 3 * own in
-      let b = 6 * s .args .q + 3 * other in
-      ap length (sym rows-of)
-      ∙ none-left (s .args .w .now) ranges a b (o .start) (o .rows) own (o .against) (o .partners) other (c .before .own-column .ensures .0) (operands .operands-of .ensures .0 .inside) own-range partner-range
-      (⊎-elim (λ l. inl (ltb-true _ _ l)) (λ l. inr (ltb-true _ _ l)) (or-cases (ltb (getD ranges (a + 1) 0) (getD ranges b 0)) (ltb (getD ranges (b + 1) 0) (getD ranges a 0)) e)) (o .rows) (le-refl _)
+      apart-none (s .args .ranges .now) (s .pre .0 .0) (s .pre .1 .2) (s .args .p) (s .args .q) (s .pre .0 .1) (s .pre .0 .2) (s .args .k) own other (s .pre .0 .3) (c .before .own-column .ensures) (c .partner-column .ensures) e
 
   -- and if they are not, objects that are searched are sorted
   partners-sorted : let s = start operands in apart (s .args .ranges .now) (6 * s .args .p + 3 * own) (6 * s .args .q + 3 * other) ≡ false → other ≡ 1
@@ -164,11 +155,6 @@ compared c = rw (sym (rows-of (c .before .before .before .before .before .before
 -- how many rows it leaves
 counted : (c : tie.After-count-partnered) → c .count-partnered .result ≡ length (semiJoinOf (start (c .before .before .before .before .before .before .before .before .before .before .before)) .rows)
 counted c = rw (sym (rows-of (c .before .before .before .before .before .before))) (c .count-partnered .ensures)
-
--- no row is stored of none
-none-stored : (t left rows : ℕ) → left ≡ 0 → isStored t left rows ≡ false
-unfolding isStored
-none-stored t left rows e = rw e refl
 
 operands-of-requires : tie.Need-operands-of-requires
 operands-of-requires c κs = search needs
