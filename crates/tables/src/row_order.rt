@@ -1,6 +1,8 @@
 ghost use mathlib.Core.Path.{_≡_};
-ghost use Prim.Native.Nat.{_≤_, _+_, _*_};
-ghost use lib.ListN.{length, drop};
+ghost use Prim.Native.Nat.{_<_, _≤_, _+_, _*_};
+ghost use lib.ListN.{length, take, drop};
+ghost use Rattle.model.specs.Lists.{all, ascends};
+ghost use Rattle.model.specs.Numbers.{isTerm};
 ghost use Rattle.model.specs.Site.{rowBefore, rowsProper};
 ghost use Rattle.model.specs.Store.{rowsIn};
 use crate::limits::MOST_TERM;
@@ -12,21 +14,42 @@ pub fn row_before(s: u32, o: u32, t: u32, p: u32) -> bool
     s < t || (s == t && o < p)
 }
 
+// Whether the n words at `start` are terms. None ends the walk, so that several are compared at once.
+fn are_terms(w: &[u32], start: usize, n: usize) -> bool
+    requires { ⌜ start + n ≤ length (now w) ⌝ }
+    ensures { λ r. ⌜ r ≡ all isTerm (take n (drop start (now (w .entry)))) ⌝ }
+{
+    let mut terms = true;
+    for i in 0..n {
+        if MOST_TERM < w[start + i] {
+            terms = false;
+        }
+    }
+    terms
+}
+
+// Whether the n rows at `start` strictly ascend; none ends the walk.
+fn rows_ascend(w: &[u32], start: usize, n: usize) -> bool
+    requires { ⌜ (0 < n) × (start + 2 * n ≤ length (now w)) ⌝ }
+    ensures { λ r. ⌜ r ≡ ascends rowBefore (rowsIn n (drop start (now (w .entry)))) ⌝ }
+{
+    let mut ascending = true;
+    for i in 1..n {
+        let here = start + 2 * i;
+        if !row_before(w[here - 2], w[here - 1], w[here], w[here + 1]) {
+            ascending = false;
+        }
+    }
+    ascending
+}
+
 // Whether the n rows at `start` hold terms and strictly ascend.
 pub fn rows_proper(w: &[u32], start: usize, n: usize) -> bool
     requires { ⌜ start + 2 * n ≤ length (now w) ⌝ }
     ensures { λ r. ⌜ r ≡ rowsProper (rowsIn n (drop start (now (w .entry)))) ⌝ }
 {
-    for i in 0..n {
-        let here = start + 2 * i;
-        let subject = w[here];
-        let object = w[here + 1];
-        if MOST_TERM < subject || MOST_TERM < object {
-            return false;
-        }
-        if 0 < i && !row_before(w[here - 2], w[here - 1], subject, object) {
-            return false;
-        }
+    if n == 0 {
+        return true;
     }
-    true
+    are_terms(w, start, 2 * n) && rows_ascend(w, start, n)
 }
