@@ -201,6 +201,10 @@ def bounds(what, ratios):
     return '%s: from %.2f to %.2f, the middle one %.2f.' % (what, ratios[0], ratios[-1], ratios[len(ratios) // 2])
 
 
+def best_ratios(measured, is_scattered):
+    return [line.ratio(BEST) for line in measured if line.call != 'build' and line.site.startswith('scattered') == is_scattered]
+
+
 def results(folder):
     measured = [Line(text) for text in lines(folder, 'times.txt')]
     sites = inputs(folder)
@@ -212,7 +216,8 @@ def results(folder):
             'Plain C is the same algorithm; best C the fastest that we could write for the same calls; before is the algorithm until question 10 and the join',
             'were made by search, in plain C, with which the engine of then was level.', '',
             bounds('Engine over plain C', [line.ratio(PLAIN) for line in measured]), '',
-            bounds('Engine over best C, plan and run', [line.ratio(BEST) for line in measured if line.call != 'build']), '',
+            bounds('Engine over best C, plan and run', best_ratios(measured, False)), '',
+            bounds('The same on the scattered shops, whose terms are numbered with gaps', best_ratios(measured, True)), '',
             bounds('Run over SQLite with quick_check', [line.ratio(CHECKED) for line in measured if line.call == 'run']), '',
             '![time of a run by rows of the site](plot.svg)', '', '## Build', '']
     text += build_table(measured, sites) + ['', '## Plan', ''] + plan_table(measured) + ['', '## Run', ''] + run_table(measured, sites)

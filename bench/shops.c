@@ -1,6 +1,7 @@
 #include "shops.h"
 
 #include <stdio.h>
+#include <stdlib.h>
 #include <string.h>
 
 /* ---- files */
@@ -41,41 +42,53 @@ enum { COVERS = 1, IN = 2, STATE = 3, BATTERY = 4, CLOSED = 40, OPEN = 41, AJAR 
 
 enum { FIRST_SENSOR = 1000, FIRST_DOOR = 3000, FIRST_ZONE = 5000 };
 
+/* Another number for each term: the numbers of a shop are no longer in a row, nor in the same order. */
+static uint32_t scattered(uint32_t t) {
+    return (uint32_t)((uint64_t)t * 40503 % 65521);
+}
+
+static uint32_t as_numbered(uint32_t t) {
+    return t;
+}
+
+typedef uint32_t renaming(uint32_t t);
+
 /* The shapes of the S2RDF paper over a shop: star, path, snowflake and a cross join; none, few and many rows. */
-static void add_shop_checks(struct workload *w) {
+static void add_shop_checks(struct workload *w, renaming *of) {
     const uint32_t s = variable(0), covers = term(COVERS), in = term(IN), state = term(STATE), battery = term(BATTERY);
-    add_check(w, "one: open doors", 1, (const uint32_t[][3]){{s, state, term(OPEN)}});
+    const uint32_t open = term(of(OPEN)), ajar = term(of(AJAR)), low = term(of(LOW)), good = term(of(GOOD));
+    add_check(w, "one: open doors", 1, (const uint32_t[][3]){{s, state, open}});
     add_check(w, "one: all of a table", 1, (const uint32_t[][3]){{s, covers, variable(1)}});
-    add_check(w, "path: sensors of open doors", 2, (const uint32_t[][3]){{s, covers, variable(1)}, {variable(1), state, term(OPEN)}});
+    add_check(w, "path: sensors of open doors", 2, (const uint32_t[][3]){{s, covers, variable(1)}, {variable(1), state, open}});
     add_check(w, "star: door, zone, battery", 3,
               (const uint32_t[][3]){{s, covers, variable(1)}, {s, in, variable(2)}, {s, battery, variable(3)}});
     add_check(w, "snowflake: open, low battery", 4,
-              (const uint32_t[][3]){{s, covers, variable(1)}, {s, in, variable(2)}, {variable(1), state, term(OPEN)}, {s, battery, term(LOW)}});
-    add_check(w, "cross join: low, open", 2, (const uint32_t[][3]){{s, battery, term(LOW)}, {variable(1), state, term(OPEN)}});
+              (const uint32_t[][3]){{s, covers, variable(1)}, {s, in, variable(2)}, {variable(1), state, open}, {s, battery, low}});
+    add_check(w, "cross join: low, open", 2, (const uint32_t[][3]){{s, battery, low}, {variable(1), state, open}});
     add_check(w, "none by the join: ajar", 3,
-              (const uint32_t[][3]){{s, covers, variable(1)}, {s, in, variable(2)}, {variable(1), state, term(AJAR)}});
+              (const uint32_t[][3]){{s, covers, variable(1)}, {s, in, variable(2)}, {variable(1), state, ajar}});
     add_check(w, "none by the counts", 2, (const uint32_t[][3]){{s, state, variable(1)}, {variable(1), state, variable(2)}});
     add_check(w, "path of 5", 5,
-              (const uint32_t[][3]){{s, battery, term(GOOD)},
+              (const uint32_t[][3]){{s, battery, good},
                                     {s, in, variable(1)},
                                     {variable(2), in, variable(1)},
                                     {variable(2), covers, variable(3)},
-                                    {variable(3), state, term(OPEN)}});
+                                    {variable(3), state, open}});
     add_check(w, "star and path of 6", 6,
               (const uint32_t[][3]){{s, covers, variable(1)},
                                     {s, in, variable(2)},
                                     {s, battery, variable(3)},
-                                    {variable(1), state, term(OPEN)},
+                                    {variable(1), state, open},
                                     {variable(4), in, variable(2)},
-                                    {variable(4), battery, term(LOW)}});
+                                    {variable(4), battery, low}});
     add_check(w, "snowflake of 7", 7,
               (const uint32_t[][3]){{s, covers, variable(1)},
                                     {variable(1), state, variable(2)},
                                     {s, in, variable(3)},
                                     {variable(4), in, variable(3)},
                                     {variable(4), covers, variable(5)},
-                                    {variable(5), state, term(OPEN)},
-                                    {variable(4), battery, term(LOW)}});
+                                    {variable(5), state, open},
+                                    {variable(4), battery, low}});
     add_check(w, "star of 8", 8,
               (const uint32_t[][3]){{s, covers, variable(1)},
                                     {s, in, variable(2)},
@@ -84,30 +97,45 @@ static void add_shop_checks(struct workload *w) {
                                     {s, in, variable(5)},
                                     {s, battery, variable(6)},
                                     {variable(1), state, variable(7)},
-                                    {variable(4), state, term(OPEN)}});
+                                    {variable(4), state, open}});
 }
 
 /* ---- sites */
 
+struct row {
+    uint32_t subject, object;
+};
+
+static int compare_rows(const void *a, const void *b) {
+    const struct row *r = a, *q = b;
+    return r->subject != q->subject ? (r->subject > q->subject) - (r->subject < q->subject) : (r->object > q->object) - (r->object < q->object);
+}
+
 /* A shop of so many rows: three in ten are sensors that cover a door, and as many that sit in a zone; two in ten are doors with their
  * state, and as many sensors with their battery. One door in eight is open, one battery in eight is low. */
-static void make_shop(struct workload *w, uint32_t rows) {
+static void make_shop(struct workload *w, const char *name, uint32_t rows, renaming *of) {
+    static struct row row[1024];
     uint32_t sensors = rows * 3 / 10, doors = rows / 5, batteries = rows - 2 * sensors - doors, zones = 1 + rows / 40;
     const uint32_t count[4] = {sensors, sensors, doors, batteries};
-    name_file(&w->site, "shop of %u rows", rows);
+    name_file(&w->site, name, rows);
     w->rows = rows;
     put_number(&w->site, 4);
     for (uint32_t p = 0; p < 4; p++) {
         put_number(&w->site, COVERS + p);
         put_number(&w->site, count[p]);
     }
-    for (uint32_t p = 0; p < 4; p++)
+    for (uint32_t p = 0; p < 4; p++) {
         for (uint32_t r = 0; r < count[p]; r++) {
             const uint32_t object[4] = {FIRST_DOOR + r * doors / sensors, FIRST_ZONE + r % zones, r % 8 == 5 ? OPEN : CLOSED, r % 8 == 3 ? LOW : GOOD};
-            put_number(&w->site, p == 2 ? FIRST_DOOR + r : FIRST_SENSOR + r);
-            put_number(&w->site, object[p]);
+            row[r] = (struct row){of(p == 2 ? FIRST_DOOR + r : FIRST_SENSOR + r), of(object[p])};
         }
-    add_shop_checks(w);
+        qsort(row, count[p], sizeof *row, compare_rows);
+        for (uint32_t r = 0; r < count[p]; r++) {
+            put_number(&w->site, row[r].subject);
+            put_number(&w->site, row[r].object);
+        }
+    }
+    add_shop_checks(w, of);
 }
 
 /* 01's worked shop, and its check. */
@@ -162,7 +190,11 @@ void make_workload(size_t k, struct workload *w) {
     case 7:
         make_tables(w, "%u x 1,024 rows, no partner", 1, 1024, 0);
         break;
+    case 8:
+    case 9:
+        make_shop(w, "scattered shop of %u rows", k == 8 ? 256 : 1024, scattered);
+        break;
     default:
-        make_shop(w, 4u << (2 * k));
+        make_shop(w, "shop of %u rows", 4u << (2 * k), as_numbered);
     }
 }
