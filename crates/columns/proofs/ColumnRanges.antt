@@ -5,7 +5,7 @@ use native.Mathlib.Nat.{le-of-suc-le-suc, lt-of-not-le}
 use native.Mathlib.Numerals.{add-one}
 use mathlib.Core.Path.{_≡_, refl, sym, ap, _∙_}
 use mathlib.Core.Logic.{_⊎_, inl, inr, ⊎-elim}
-use mathlib.Core.Bool.{Bool, true, false, false≢true, _||_, or-false}
+use mathlib.Core.Bool.{Bool, true, false, false≢true, _||_, or-comm, or-false}
 use mathlib.Core.List.{List}
 use lib.ListN.{length, getD, set, length-append, length-set}
 use lib.Seq.{getD-set-same, getD-set-other}
@@ -195,6 +195,10 @@ module _ (words ranges : List ℕ) (a b p m own q n other : ℕ) (own-column : o
       let own-range = row-range k h in
       let has = partner-of-value words p k own q n other own-column ∙ theirs .gapless whole (getD words (p + 2 * k + own) 0) (omega (arith, own-range .0)) (omega (arith, own-range .1)) in
       rw (← add-one k, row-left words p k own q n other has (omega arith), length-append, all-left whole low high k (omega arith)) refl
+
+-- ranges are apart in either order
+pub apart-turned : (ranges : List ℕ) (a b : ℕ) → apart ranges a b ≡ apart ranges b a
+apart-turned ranges a b = or-comm (ltb (getD ranges (a + 1) 0) (getD ranges b 0)) (ltb (getD ranges (b + 1) 0) (getD ranges a 0))
 
 -- ---- where the ranges stand
 

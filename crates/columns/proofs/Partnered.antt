@@ -2,33 +2,91 @@
 use Prim.Native.Nat.{ℕ, zero, suc, _+_, _*_, _≤_, _<_}
 use native.Mathlib.Omega.{arith}
 use native.Mathlib.Numerals.{add-one}
-use mathlib.Core.Path.{_≡_, refl, ap, _∙_}
-use mathlib.Core.Bool.{cond}
+use mathlib.Core.Path.{_≡_, refl, sym, ap, _∙_}
+use mathlib.Core.Bool.{Bool, true, false, cond, _||_}
 use mathlib.Core.List.{List, [], _∷_, _++_}
 use lib.ListN.{length, getD, drop}
-use lib.Dec.{eqb}
-use Rattle.model.specs.Lists.{any, below}
+use lib.Dec.{eqb, ltb}
+use borrow.Author.Tests.{lt-ltb}
+use Rattle.model.specs.Lists.{any, keep, below}
 use Rattle.model.specs.Site.{Row}
-use Rattle.model.specs.Tables.{at, subject, semiJoin}
+use Rattle.model.specs.Tables.{Column, at, subject, semiJoin}
 use Rattle.model.specs.Store.{rowsIn}
 use Rattle.model.proofs.Below.{below-last}
-use Rattle.model.proofs.Membership.{any-append, keep-append}
+use Rattle.model.proofs.Membership.{keep-same}
 use Rattle.model.proofs.PlanFile.{eqb-comm}
+use Rattle.model.proofs.Counting.{num, count, count-append}
 use Rattle.rows.specs.Search.{wordAt, hasWord}
+use Rattle.rows.proofs.HeapSort.{keep-count}
 use Rattle.tables.specs.Columns.{columnOf, kindOfColumns}
 use Rattle.tables.proofs.Rows.{rowAt, rows-at}
 use Rattle.tables.proofs.Partners.{hasPartner, at-column}
-use Rattle.columns.specs.Searching.{rowsWith}
+use Rattle.columns.specs.Searching.{passing, SameValues}
+use Rattle.columns.specs.Ranges.{hasValue}
 
--- every other word is a subject, so that a search among those asks the rows
-pub same-subjects : (words : List ℕ) (start n x : ℕ) → start + 2 * n ≤ length words
-    → hasWord words start 2 n x ≡ any (λ r. eqb x (at subject r)) (rowsIn n (drop start words))
-unfolding hasWord
-same-subjects words start zero x h = refl
-same-subjects words start (suc n) x h =
-    ap (any (λ i. eqb (wordAt words start 2 i) x)) (below-last n)
-    ∙ any-append _ (below n) _
-    ∙ rw (same-subjects words start n x (omega arith), ← add-one n, rows-at words start n 0 (omega arith), any-append, eqb-comm x) refl
+-- ---- lists
+
+module _ {A : Type 0} where
+  -- some element passes a test where those that pass are more than none
+  any-keep : (p : A → Bool) (l : List A) → any p l ≡ ltb 0 (length (keep p l))
+  any-keep p [] = refl
+  any-keep p (x ∷ xs) = go (p x) (any-keep p xs)
+    where
+      go : (b : Bool) → any p xs ≡ ltb 0 (length (keep p xs)) → (b || any p xs) ≡ ltb 0 (length (cond b (x ∷ keep p xs) (keep p xs)))
+      go true e = sym (lt-ltb 0 (suc (length (keep p xs))) (omega arith))
+      go false e = e
+
+  -- tests that agree
+  any-same : (p q : A → Bool) (l : List A) → ((a : A) → p a ≡ q a) → any p l ≡ any q l
+  any-same p q [] h = refl
+  any-same p q (x ∷ xs) h = rw (h x, any-same p q xs h) refl
+
+-- ---- words that pass a test
+
+-- one word more
+pub passing-more : (words : List ℕ) (base stride i : ℕ) (test : ℕ → Bool)
+    → passing words base stride (i + 1) test ≡ passing words base stride i test + num (test (wordAt words base stride i))
+unfolding passing
+passing-more words base stride i test =
+    let p : ℕ → Bool = λ j. test (wordAt words base stride j) in
+    keep-count p (below (i + 1))
+    ∙ ap (count p) (ap below (add-one i) ∙ below-last i)
+    ∙ count-append p (below i) (i ∷ [])
+    ∙ omega (arith, keep-count p (below i))
+
+-- tests that agree
+pub passing-same : (words : List ℕ) (base stride n : ℕ) (test other : ℕ → Bool) → ((x : ℕ) → test x ≡ other x)
+    → passing words base stride n test ≡ passing words base stride n other
+unfolding passing
+passing-same words base stride n test other same = ap length (keep-same _ _ (below n) (λ i m. same (wordAt words base stride i)))
+
+-- a search among words asks the rows whose values they are
+pub same-answers : {words : List ℕ} {base stride n : ℕ} {column : Column} {rows : List Row} → SameValues words base stride n column rows
+    → (x : ℕ) → hasWord words base stride n x ≡ any (λ r. eqb x (at column r)) rows
+unfolding hasWord passing
+same-answers {n = n} {column = column} {rows = rows} same x =
+    any-keep _ (below n)
+    ∙ ap (ltb 0) (same .as-often (λ y. eqb y x))
+    ∙ sym (any-keep _ rows)
+    ∙ any-same _ _ rows (λ r. eqb-comm (at column r) x)
+
+-- every other word is a subject
+pub same-subjects : (words : List ℕ) (start n : ℕ) → start + 2 * n ≤ length words → SameValues words start 2 n subject (rowsIn n (drop start words))
+unfolding passing
+same-subjects words start n h = record { as-often = λ test. go test n h }
+  where
+    go : (test : ℕ → Bool) (k : ℕ) → start + 2 * k ≤ length words
+        → passing words start 2 k test ≡ length (keep (λ r. test (at subject r)) (rowsIn k (drop start words)))
+    go test zero l = refl
+    go test (suc k) l =
+        let p : Row → Bool = λ r. test (at subject r) in
+        let rows = rowsIn k (drop start words) in
+        let more = rowAt words start k ∷ [] in
+        ap (λ (i : ℕ). passing words start 2 i test) (sym (add-one k))
+        ∙ passing-more words start 2 k test
+        ∙ rw (go test k (omega arith), ← add-one k, rows-at words start k 0 (omega arith)) (omega (arith, keep-count p rows, keep-count p (rows ++ more), count-append p rows more))
+
+-- ---- partners
 
 -- row i has a partner where some row has the value that row i has in its own column
 pub partner-of-value : (w : List ℕ) (p i own q n other : ℕ) → own < 2
@@ -36,21 +94,8 @@ pub partner-of-value : (w : List ℕ) (p i own q n other : ℕ) → own < 2
 unfolding hasPartner
 partner-of-value w p i own q n other h = ap (λ (v : ℕ). any (λ s. eqb v (at (columnOf other) s)) (rowsIn n (drop q w))) (at-column w p i own h)
 
--- ---- the rows whose value is one of some words
-
-module _ (words : List ℕ) (base stride n : ℕ) where
-  -- one row more
-  pub row-with : (w : List ℕ) (p i own : ℕ) → own < 2 → p + 2 * (i + 1) ≤ length w
-      → rowsWith words base stride n own (rowsIn (i + 1) (drop p w))
-      ≡ rowsWith words base stride n own (rowsIn i (drop p w)) ++ cond (hasWord words base stride n (getD w (p + 2 * i + own) 0)) (rowAt w p i ∷ []) []
-  unfolding rowsWith
-  row-with w p i own column h = rw (rows-at w p i 0 h, keep-append, at-column w p i own column) refl
-
-  -- they are the semi-join's, where the words are the values that the partners have
-  pub rows-left : (own other : ℕ) (rows partners : List Row)
-      → ((x : ℕ) → hasWord words base stride n x ≡ any (λ s. eqb x (at (columnOf other) s)) partners)
-      → rowsWith words base stride n own rows ≡ semiJoin (kindOfColumns own other) rows partners
-  unfolding rowsWith semiJoin
-  rows-left own other [] partners same = refl
-  rows-left own other (r ∷ rows) partners same =
-      rw (same (at (columnOf own) r), rows-left own other rows partners same) refl
+-- the rows that a semi-join leaves are as many as the own column's words that are values of the partners
+pub rows-left : {words : List ℕ} {base stride m : ℕ} {rows : List Row} (own : ℕ) (w : List ℕ) (q n other : ℕ) → SameValues words base stride m (columnOf own) rows
+    → passing words base stride m (hasValue w q n other) ≡ length (semiJoin (kindOfColumns own other) rows (rowsIn n (drop q w)))
+unfolding semiJoin
+rows-left own w q n other same = same .as-often (hasValue w q n other)

@@ -8,27 +8,28 @@ use mathlib.Core.Bool.{true, false, _&&_}
 use mathlib.Core.List.{List, [], _∷_, _++_, map, map-append}
 use lib.ListN.{length, getD, take, drop, set, length-map, List·getD-append}
 use lib.Seq.{length-take-le, getD-take, getD-drop, getD-append-add}
-use lib.Dec.{eqb, ltb}
+use lib.Dec.{ltb}
 use borrow.Author.Count.{below-more}
 use borrow.Author.Tests.{ltb-false}
 use Rattle.model.specs.Lists.{all, ascends, below}
 use Rattle.model.specs.Numbers.{isTerm}
 use Rattle.model.specs.Site.{Row, rowBefore, rowsProper, Site, rowTotal, noTable, tableAt}
+use Rattle.model.specs.Tables.{Column}
 use Rattle.model.specs.Store.{rowsStart, rowsIn, vpEntries}
 use Rattle.model.proofs.Booleans.{and-cases, or-left, not-both, to-false}
-use Rattle.model.proofs.Membership.{at-place, from-all}
+use Rattle.model.proofs.Membership.{at-place, from-all, keep-same}
 use Rattle.model.proofs.Below.{from-below, below-last, length-countUp, getD-countUp}
 use Rattle.model.proofs.Order.{rows}
 use Rattle.model.proofs.Sorting.{ascending-sorted}
 use Rattle.model.proofs.Partition.{proper}
-use Rattle.rows.specs.Search.{wordAt, Ascending, hasWord}
+use Rattle.rows.specs.Search.{wordAt, Ascending}
 use Rattle.tables.specs.SiteWords.{siteIn, ImageOf}
 use Rattle.tables.proofs.Rows.{rowAt, rows-at}
 use Rattle.tables.proofs.Images.{table-in}
-use Rattle.columns.specs.Searching.{AllSearchable, ObjectsSorted, AllSorted, CopyOf}
+use Rattle.columns.specs.Searching.{passing, SameValues, AllSearchable, ObjectsSorted, AllSorted, CopyOf}
 use Rattle.columns.specs.Ranges.{apart}
 use Rattle.columns.proofs.ColumnRanges.{apart-again}
-use Rattle.columns.proofs.SortedObjects.{places-sorted, any-same}
+use Rattle.columns.proofs.SortedObjects.{places-sorted}
 
 -- ---- where the tables start
 
@@ -89,10 +90,9 @@ module _ (words moved : List ℕ) (p q n : ℕ) (same : (i : ℕ) → i < n → 
   ascending-moved : Ascending words p 1 n → Ascending moved q 1 n
   ascending-moved a i j h l = omega (arith, a i j h l, same i (omega arith), same j l)
 
-  value-moved : (x : ℕ) → hasWord moved q 1 n x ≡ hasWord words p 1 n x
-  unfolding hasWord
-  value-moved x =
-      any-same (λ i. eqb (wordAt moved q 1 i) x) (λ i. eqb (wordAt words p 1 i) x) (below n) (λ i m. ap (λ (y : ℕ). eqb y x) (same i (from-below n m)))
+  values-moved : {column : Column} {rows : List Row} → SameValues words p 1 n column rows → SameValues moved q 1 n column rows
+  unfolding passing
+  values-moved s = record { as-often = λ test. ap length (keep-same _ _ (below n) (λ i m. ap test (same i (from-below n m)))) ∙ s .as-often test }
 
 -- ---- a part put back
 
@@ -186,7 +186,7 @@ module _ {count : ℕ} {w : List ℕ} (o : ImageOf count w) where
         λ k m. word-before objects copy rest (partAt i) inside (partAt j + 1 * k) (omega (arith, parts-apart j i l h)) in
         record {
           objects-ascend = ascending-moved objects now (partAt j) (partAt j) (rowsAt j) same (s .objects-ascend);
-          same-objects = λ x. value-moved objects now (partAt j) (partAt j) (rowsAt j) same x ∙ s .same-objects x;
+          same-objects = values-moved objects now (partAt j) (partAt j) (rowsAt j) same (s .same-objects);
         }
 
     one-put : CopyOf w (startAt i) (rowsAt i) copy → ObjectsSorted w (putBack objects (partAt i) copy rest) (rowsStart count) (startAt i) (rowsAt i)
@@ -196,7 +196,7 @@ module _ {count : ℕ} {w : List ℕ} (o : ImageOf count w) where
         λ k m. word-there objects copy rest (partAt i) inside k (omega arith) in
         record {
           objects-ascend = ascending-moved copy now 0 (partAt i) (rowsAt i) same (c .ascend);
-          same-objects = λ x. value-moved copy now 0 (partAt i) (rowsAt i) same x ∙ c .same x;
+          same-objects = values-moved copy now 0 (partAt i) (rowsAt i) same (c .same);
         }
 
     -- if they are reached; with them the third number of their range is written

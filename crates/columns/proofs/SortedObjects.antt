@@ -1,29 +1,29 @@
 -- Words copied and sorted: they ascend, and are the words that were copied.
 use Prim.Native.Nat.{ℕ, zero, suc, _+_, _*_, _≤_, _<_}
-use native.Mathlib.Nat.{mul-one, zero-add}
+use native.Mathlib.Nat.{mul-one}
 use native.Mathlib.Numerals.{add-one}
 use native.Mathlib.Omega.{arith}
 use mathlib.Core.Path.{_≡_, refl, sym, ap, _∙_}
-use mathlib.Core.Bool.{Bool, true, false, cond, _||_, and-false, or-false}
-use mathlib.Core.List.{List, [], _∷_, _++_, map, map-append, map-id, List·Memᴰ·head, List·Memᴰ·tail}
+use mathlib.Core.Bool.{Bool, true, false, cond, and-false, or-false}
+use mathlib.Core.List.{List, [], _∷_, _++_, map, map-append, map-id}
 use lib.ListN.{length, getD, take, drop, set, length-append, length-drop, length-set, List·getD-append}
 use lib.Seq.{drop-cons, take-suc, take-suc-set, drop-set-lt, take-at, drop-at}
-use lib.Dec.{eqb, ltb}
-use borrow.Author.Tests.{ltb-false, lt-ltb}
-use Rattle.model.specs.Lists.{_∈_, any, each, below, insert, sort, wordsBefore}
+use lib.Dec.{ltb}
+use borrow.Author.Tests.{ltb-false}
+use Rattle.model.specs.Lists.{each, below, insert, sort, wordsBefore}
 use Rattle.model.specs.Tables.{at, object}
 use Rattle.model.specs.Store.{rowsIn}
 use Rattle.model.proofs.Booleans.{to-false}
-use Rattle.model.proofs.PlanFile.{eqb-comm}
 use Rattle.model.proofs.Membership.{at-place}
 use Rattle.model.proofs.Below.{below-last}
 use Rattle.model.proofs.Order.{IsOrder, numbers}
-use Rattle.model.proofs.Counting.{num, count}
+use Rattle.model.proofs.Counting.{count, count-map}
 use Rattle.model.proofs.Sorting.{Sorted, count-sort, sorted-sort}
 use Rattle.rows.specs.Rows.{rowIn, rowsOf, sortedFront}
-use Rattle.rows.specs.Search.{wordAt, Ascending, hasWord}
+use Rattle.rows.specs.Search.{wordAt, Ascending}
+use Rattle.rows.proofs.HeapSort.{keep-count}
 use Rattle.tables.proofs.Rows.{rows-at}
-use Rattle.columns.specs.Searching.{CopyOf}
+use Rattle.columns.specs.Searching.{passing, CopyOf}
 
 -- ---- lists
 
@@ -36,27 +36,6 @@ module _ {A : Type 0} where
   places-sorted before order d (x ∷ xs) zero (suc j) s h l = s .0 (getD xs j d) (at-place xs d j (omega arith))
   places-sorted before order d (x ∷ xs) (suc i) zero s h l = absurd (omega arith)
   places-sorted before order d (x ∷ xs) (suc i) (suc j) s h l = places-sorted before order d xs i j (s .1) (omega arith) (omega arith)
-
-  any-count : (p : A → Bool) (l : List A) → any p l ≡ ltb 0 (count p l)
-  any-count p [] = refl
-  any-count p (x ∷ xs) = go (p x) (any-count p xs)
-    where
-      go : (b : Bool) → any p xs ≡ ltb 0 (count p xs) → (b || any p xs) ≡ ltb 0 (num b + count p xs)
-      go true e = sym (lt-ltb 0 (1 + count p xs) (omega arith))
-      go false e = rw zero-add e
-
-  -- what stands in a list stands in it sorted
-  any-sort : (before : A → A → Bool) (p : A → Bool) (l : List A) → any p (sort before l) ≡ any p l
-  any-sort before p l = any-count p (sort before l) ∙ ap (ltb 0) (count-sort before p l) ∙ sym (any-count p l)
-
-  any-map : {B : Type 0} (p : B → Bool) (f : A → B) (l : List A) → any p (map f l) ≡ any (λ a. p (f a)) l
-  any-map p f [] = refl
-  any-map p f (x ∷ xs) = rw (any-map p f xs) refl
-
-  -- tests that agree on a list
-  pub any-same : (p q : A → Bool) (l : List A) → ((a : A) → a ∈ l → p a ≡ q a) → any p l ≡ any q l
-  any-same p q [] h = refl
-  any-same p q (x ∷ xs) h = rw (h x (List·Memᴰ·head refl), any-same p q xs (λ a m. h a (List·Memᴰ·tail m))) refl
 
   -- the first words one by one
   front-places : (f g : ℕ → A) (words : List ℕ) (n : ℕ) → n ≤ length words → ((i : ℕ) → i < n → f i ≡ g (getD words i 0))
@@ -104,16 +83,16 @@ sorted-words : (words : List ℕ) (n : ℕ) → n ≤ length words → sortedFro
 unfolding sortedFront
 sorted-words words n h = rw (rows-single words n h, sort-singles, singles-words, mul-one n) refl
 
--- ---- a value among the first words
+-- ---- those of the first words that pass a test
 
-among-first : (words : List ℕ) (n x : ℕ) → n ≤ length words → hasWord words 0 1 n x ≡ any (eqb x) (take n words)
-unfolding hasWord
-among-first words n x h =
+passing-first : (words : List ℕ) (n : ℕ) (test : ℕ → Bool) → n ≤ length words → passing words 0 1 n test ≡ count test (take n words)
+unfolding passing
+passing-first words n test h =
     let places : map (wordAt words 0 1) (below n) ≡ take n words =
     front-places (wordAt words 0 1) (λ y. y) words n h (λ i l. ap (λ (p : ℕ). getD words p 0) (omega arith)) ∙ map-id (take n words) in
-    any-same (λ i. eqb (wordAt words 0 1 i) x) (λ i. eqb x (wordAt words 0 1 i)) (below n) (λ i m. eqb-comm (wordAt words 0 1 i) x)
-    ∙ sym (any-map (eqb x) (wordAt words 0 1) (below n))
-    ∙ ap (any (eqb x)) places
+    keep-count (λ i. test (wordAt words 0 1 i)) (below n)
+    ∙ sym (count-map test (wordAt words 0 1) (below n))
+    ∙ ap (count test) places
 
 -- ---- the objects of the rows at `start`, copied to the front of words that had been `entry`
 
@@ -171,12 +150,15 @@ module _ {w entry copy : List ℕ} {start n r : ℕ} (c : Copied w start n entry
     sorted-copy : CopyOf w start n sorted
     sorted-copy = record {
       ascend = ascends;
-      same = λ x.
-          among-first sorted n x (omega (arith, c .same-length))
-          ∙ ap (any (eqb x)) (ap (take n) whole ∙ take-at front (drop n copy) n length-front)
-          ∙ any-sort ltb (eqb x) (take n copy)
-          ∙ ap (any (eqb x)) copied
-          ∙ any-map (eqb x) (at object) (rowsIn n (drop start w));
+      same = record {
+        as-often = λ test.
+            passing-first sorted n test (omega (arith, c .same-length))
+            ∙ ap (count test) (ap (take n) whole ∙ take-at front (drop n copy) n length-front)
+            ∙ count-sort ltb test (take n copy)
+            ∙ ap (count test) copied
+            ∙ count-map test (at object) (rowsIn n (drop start w))
+            ∙ sym (keep-count (λ r. test (at object r)) (rowsIn n (drop start w)));
+      };
     }
 
     pub all-copied : CopyOf w start n sorted × (drop n sorted ≡ drop n entry)

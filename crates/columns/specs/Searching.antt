@@ -2,17 +2,23 @@
 -- some table's subjects reach them.
 use Prim.Native.Nat.{ℕ, _+_, _-_, _*_, _/_, _≤_, _<_}
 use mathlib.Core.Path.{_≡_}
-use mathlib.Core.Bool.{false}
+use mathlib.Core.Bool.{Bool, false}
 use mathlib.Core.List.{List}
 use lib.ListN.{length, getD, drop}
-use lib.Dec.{eqb}
-use Rattle.model.specs.Lists.{any, keep}
+use Rattle.model.specs.Lists.{keep, below}
 use Rattle.model.specs.Site.{Row}
-use Rattle.model.specs.Tables.{at, object}
+use Rattle.model.specs.Tables.{Column, at, object}
 use Rattle.model.specs.Store.{rowsStart, rowsIn}
-use Rattle.tables.specs.Columns.{columnOf}
-use Rattle.rows.specs.Search.{Ascending, hasWord}
+use Rattle.rows.specs.Search.{wordAt, Ascending}
 use Rattle.columns.specs.Ranges.{apart}
+
+-- how many of n words pass a test
+unfoldable pub passing : List ℕ → ℕ → ℕ → ℕ → (ℕ → Bool) → ℕ
+passing words base stride n test = length (keep (λ i. test (wordAt words base stride i)) (below n))
+
+-- n words are the values that some rows have at a column, each as often as there
+pub record SameValues (words : List ℕ) (base stride n : ℕ) (column : Column) (rows : List Row) : Type 0 where
+  pub as-often : (test : ℕ → Bool) → passing words base stride n test ≡ length (keep (λ r. test (at column r)) rows)
 
 module _ (words objects : List ℕ) (first : ℕ) where
   -- where the objects of the rows at `start` stand in the copy, which has a word for each row behind `first`
@@ -27,11 +33,7 @@ module _ (words objects : List ℕ) (first : ℕ) where
 
   pub record ObjectsSorted (start n : ℕ) : Type 0 where
     pub objects-ascend : Ascending objects (copyAt start) 1 n
-    pub same-objects : (x : ℕ) → hasWord objects (copyAt start) 1 n x ≡ any (λ r. eqb x (at object r)) (rowsIn n (drop start words))
-
--- the rows whose value at a column is one of n ascending words
-unfoldable pub rowsWith : List ℕ → ℕ → ℕ → ℕ → ℕ → List Row → List Row
-rowsWith words base stride n column rows = keep (λ r. hasWord words base stride n (at (columnOf column) r)) rows
+    pub same-objects : SameValues objects (copyAt start) 1 n object (rowsIn n (drop start words))
 
 -- each of the first k tables of an image of `count` predicates can be
 abbrev pub AllSearchable : ℕ → List ℕ → List ℕ → ℕ → Type 0
@@ -47,4 +49,4 @@ AllSorted count words objects ranges k =
 -- the first n words are the objects of the rows at `start`, in ascending order
 pub record CopyOf (words : List ℕ) (start n : ℕ) (copy : List ℕ) : Type 0 where
   pub ascend : Ascending copy 0 1 n
-  pub same : (x : ℕ) → hasWord copy 0 1 n x ≡ any (λ r. eqb x (at object r)) (rowsIn n (drop start words))
+  pub same : SameValues copy 0 1 n object (rowsIn n (drop start words))

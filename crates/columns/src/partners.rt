@@ -7,10 +7,11 @@ ghost use Rattle.model.specs.Site.{mostPredicates};
 ghost use Rattle.model.specs.Tables.{at, semiJoin};
 ghost use Rattle.model.specs.Store.{rowsIn, tableWords};
 ghost use Rattle.tables.specs.Columns.{columnOf, kindOfColumns};
-ghost use Rattle.rows.specs.Search.{Ascending};
-ghost use Rattle.columns.specs.Searching.{Searchable, ObjectsSorted, rowsWith};
-ghost use Rattle.columns.specs.Ranges.{ColumnRange};
+ghost use Rattle.rows.specs.Search.{Ascending, hasWord};
+ghost use Rattle.columns.specs.Searching.{passing, Searchable, ObjectsSorted};
+ghost use Rattle.columns.specs.Ranges.{hasValue, ColumnRange};
 use rows::search::has_word;
+use rows::search::skip_below;
 use tables::operands::Operands;
 
 // Whether some of the n rows at `start` has a value at a column: by search in the rows where it is the subject, else in their objects'
@@ -33,32 +34,59 @@ pub fn has_partner(
     has_word(objects, (start - first) / 2, 1, n, value)
 }
 
-// How many of the m rows at p have, in column `own`, a value that one of n ascending words has.
-fn count_words(
-    w: &[u32],
-    p: usize,
+// How many of m ascending words are among n others: these ascend too, so that both are walked once, side by side.
+fn count_common(
+    own: &[u32],
+    from: usize,
+    step: usize,
     m: usize,
-    own: usize,
     words: &[u32],
     base: usize,
     stride: usize,
     n: usize,
 ) -> usize
-    requires { ⌜ (p + 2 * m ≤ length (now w)) × (own < 2) × (0 < stride) × (base + stride * n ≤ length (now words)) × Ascending (now words) base stride n ⌝ }
-    ensures { λ r. ⌜ r ≡ length (rowsWith (now (words .entry)) base stride n own (rowsIn m (drop p (now (w .entry))))) ⌝ }
+    requires { ⌜ (0 < step) × (from + step * m ≤ length (now own)) × Ascending (now own) from step m ⌝ }
+    requires { ⌜ (0 < stride) × (base + stride * n ≤ length (now words)) × Ascending (now words) base stride n ⌝ }
+    ensures { λ r. ⌜ r ≡ passing (now (own .entry)) from step m (hasWord (now (words .entry)) base stride n) ⌝ }
 {
     let mut kept: usize = 0;
+    let mut place: usize = 0;
     for i in 0..m {
-        let value = w[p + 2 * i + own];
-        if has_word(words, base, stride, n, value) {
+        let value = own[from + step * i];
+        place = skip_below(words, base, stride, n, place, value);
+        if place < n && words[base + stride * place] == value {
             kept += 1;
         }
     }
     kept
 }
 
-// How many rows a semi-join of predicate p against q leaves, by the columns that are compared. By their ranges all may be left; else which
-// words are searched is decided once, before the rows.
+// How many words of a semi-join's own column are values of its partners' column, which is walked in the rows or in the objects' copy.
+fn count_values(
+    own: &[u32],
+    base: usize,
+    stride: usize,
+    w: &[u32],
+    objects: &[u32],
+    first: usize,
+    o: Operands,
+    other: usize,
+) -> usize
+    requires { ⌜ (0 < stride) × (base + stride * o .rows ≤ length (now own)) × Ascending (now own) base stride (o .rows) ⌝ }
+    requires { ⌜ Searchable (now w) (now objects) first (o .against) (o .partners) × (other < 2) × (other ≡ 1 → ObjectsSorted (now w) (now objects) first (o .against) (o .partners)) ⌝ }
+    ensures { λ r. ⌜ r ≡ passing (now (own .entry)) base stride (o .rows) (hasValue (now (w .entry)) (o .against) (o .partners) other) ⌝ }
+{
+    let m = o.rows;
+    let n = o.partners;
+    if other == 0 {
+        return count_common(own, base, stride, m, w, o.against, 2, n);
+    }
+    let copy = (o.against - first) / 2;
+    count_common(own, base, stride, m, objects, copy, 1, n)
+}
+
+// How many rows a semi-join of predicate p against q leaves, by the columns that are compared. By their ranges all may be left; else both
+// columns are walked, where they ascend: the subjects in the rows, the objects in the copy.
 pub fn count_partnered(
     w: &[u32],
     objects: &[u32],
@@ -70,7 +98,8 @@ pub fn count_partnered(
     own: usize,
     other: usize,
 ) -> usize
-    requires { ⌜ (o .start + 2 * o .rows ≤ length (now w)) × Searchable (now w) (now objects) first (o .against) (o .partners) × (own < 2) × (other < 2) × (other ≡ 1 → ObjectsSorted (now w) (now objects) first (o .against) (o .partners)) ⌝ }
+    requires { ⌜ Searchable (now w) (now objects) first (o .start) (o .rows) × (own < 2) × (own ≡ 1 → ObjectsSorted (now w) (now objects) first (o .start) (o .rows)) ⌝ }
+    requires { ⌜ Searchable (now w) (now objects) first (o .against) (o .partners) × (other < 2) × (other ≡ 1 → ObjectsSorted (now w) (now objects) first (o .against) (o .partners)) ⌝ }
     requires { ⌜ (p < mostPredicates) × (q < mostPredicates) × ColumnRange (now w) (o .start) (o .rows) own (now ranges) (6 * p + 3 * own) × ColumnRange (now w) (o .against) (o .partners) other (now ranges) (6 * q + 3 * other) ⌝ }
     ensures { λ r. ⌜ r ≡ length (semiJoin (kindOfColumns own other) (rowsIn (o .rows) (drop (o .start) (now (w .entry)))) (rowsIn (o .partners) (drop (o .against) (now (w .entry))))) ⌝ }
 {
@@ -83,19 +112,11 @@ pub fn count_partnered(
     if ranges[b + 2] == 1 && partner_lowest <= lowest && highest <= partner_highest {
         return o.rows;
     }
-    if other == 0 {
-        return count_words(w, o.start, o.rows, own, w, o.against, 2, o.partners);
+    if own == 0 {
+        return count_values(w, o.start, 2, w, objects, first, o, other);
     }
-    count_words(
-        w,
-        o.start,
-        o.rows,
-        own,
-        objects,
-        (o.against - first) / 2,
-        1,
-        o.partners,
-    )
+    let copy = (o.start - first) / 2;
+    count_values(objects, copy, 1, w, objects, first, o, other)
 }
 
 // Whether the k rows at `at` are those that are left, in their order.

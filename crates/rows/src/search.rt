@@ -1,7 +1,7 @@
 ghost use mathlib.Core.Path.{_≡_};
-ghost use Prim.Native.Nat.{_<_, _≤_, _+_, _*_};
+ghost use Prim.Native.Nat.{ℕ, _<_, _≤_, _+_, _*_};
 ghost use lib.ListN.{length};
-ghost use Rattle.rows.specs.Search.{Ascending, Splits, hasWord};
+ghost use Rattle.rows.specs.Search.{wordAt, Ascending, Splits, hasWord};
 
 // How many of n ascending words, `stride` apart from `base` on, are below a value.
 pub fn words_below(words: &[u32], base: usize, stride: usize, n: usize, value: u32) -> usize
@@ -42,6 +42,28 @@ pub fn first_not_below(words: &[u32], base: usize, stride: usize, n: usize, valu
         return guess;
     }
     words_below(words, base, stride, n, value)
+}
+
+// The same, by a walk from a place before which all words are below: for values that ascend, each walk goes on where the last one ended.
+pub fn skip_below(
+    words: &[u32],
+    base: usize,
+    stride: usize,
+    n: usize,
+    from: usize,
+    value: u32,
+) -> usize
+    requires { ⌜ (0 < stride) × (base + stride * n ≤ length (now words)) × Ascending (now words) base stride n × (from ≤ n) × ((i : ℕ) → i < from → wordAt (now words) base stride i < value) ⌝ }
+    ensures { λ r. ⌜ Splits (now (words .entry)) base stride n value r ⌝ }
+{
+    let mut place = from;
+    while place < n {
+        if value <= words[base + stride * place] {
+            return place;
+        }
+        place += 1;
+    }
+    place
 }
 
 // Whether one of n ascending words has a value, by search.

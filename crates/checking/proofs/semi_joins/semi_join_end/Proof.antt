@@ -4,7 +4,7 @@ use native.Mathlib.Nat.{le-trans}
 use native.Mathlib.Omega.{arith}
 use mir.Facts.{fits-widen}
 use mathlib.Core.Path.{_≡_, refl, sym, ap, ap₂, _∙_, subst}
-use mathlib.Core.Logic.{⊎-elim}
+use mathlib.Core.Logic.{_⊎_, inl, inr, ⊎-elim}
 use mathlib.Core.Bool.{true, false}
 use mathlib.Core.List.{List}
 use lib.ListN.{length, getD, take, drop}
@@ -21,6 +21,7 @@ use Rattle.columns.specs.Ranges.{ColumnRange, apart}
 use Rattle.tables.proofs.Images.{few-predicates, entries-inside}
 use Rattle.tables.proofs.Entries.{place-below, operands-of, counted-of, left-fewer}
 use Rattle.checking.specs.declared.entries.Place.{Place}
+use Rattle.columns.proofs.ColumnRanges.{apart-turned}
 use Rattle.checking.proofs.EmptyPairs.{apart-none, none-stored}
 use Rattle.checking.proofs.Join.{end, ends-wrong, stored, ends-stored, not-stored, ends-not-stored}
 use borrow.Author.Needs.{needs}
@@ -56,13 +57,14 @@ left-moved : (words : List ℕ) (kind : Kind) {left : List Row} {start from n ro
     → semiJoin kind (rowsIn rows (drop from words)) (rowsIn others (drop at words)) ≡ left → semiJoin kind (rowsIn n (drop start words)) (rowsIn partners (drop against words)) ≡ left
 left-moved words kind a b c d e = rw (a, b, c, d) e
 
--- objects are partners of subjects only
-subject-own : (k own other : ℕ) → k < kindCount → columnOf own ≡ kindAt k .0 → columnOf other ≡ kindAt k .1 → other ≡ 1 → own ≡ 0
-subject-own k zero other h mine theirs object = refl
-subject-own zero (suc own) other h mine theirs object = cc
-subject-own (suc zero) (suc own) other h mine theirs object = let same : columnOf 1 ≡ columnOf other = ap columnOf (sym object) in cc
-subject-own (suc (suc zero)) (suc own) other h mine theirs object = cc
-subject-own (suc (suc (suc k))) (suc own) other h mine theirs object = absurd (omega arith)
+-- of the two columns one is the subject
+one-subject : (k own other : ℕ) → k < kindCount → columnOf own ≡ kindAt k .0 → columnOf other ≡ kindAt k .1 → (own ≡ 0) ⊎ (other ≡ 0)
+one-subject k zero other h mine theirs = inl refl
+one-subject k (suc own) zero h mine theirs = inr refl
+one-subject zero (suc own) (suc other) h mine theirs = inl cc
+one-subject (suc zero) (suc own) (suc other) h mine theirs = inl cc
+one-subject (suc (suc zero)) (suc own) (suc other) h mine theirs = inl cc
+one-subject (suc (suc (suc k))) (suc own) (suc other) h mine theirs = absurd (omega arith)
 
 -- what is known once the operands are
 module _ (o : tie.After-operands-of) where
@@ -89,7 +91,10 @@ module _ (o : tie.After-operands-of) where
   at-entry {r} e =
       subst (λ (n : ℕ). r ≡ end (start .args .t) (start .args .w .now) (semiJoinOf start) n (start .args .here) (start .args .used)) entry-place e
 
-  -- the partners can be searched
+  -- the rows can be searched, and the partners
+  rows-searchable : Searchable (start .args .w .now) (start .args .objects .now) (start .args .first) (o .operands-of .result .start) (o .operands-of .result .rows)
+  rows-searchable = moved (start .pre .1 .3) (o .operands-of .ensures .1 .start) (o .operands-of .ensures .1 .rows) (start .pre .1 .0 (start .args .p) (start .pre .0 .1))
+
   partners-searchable : Searchable (start .args .w .now) (start .args .objects .now) (start .args .first) (o .operands-of .result .against) (o .operands-of .result .partners)
   partners-searchable = moved (start .pre .1 .3) (o .operands-of .ensures .1 .against) (o .operands-of .ensures .1 .partners) (start .pre .1 .0 (start .args .q) (start .pre .0 .2))
 
@@ -103,6 +108,9 @@ module _ (c : tie.After-partner-column) where
 
   abbrev other : ℕ
   other = c .partner-column .result
+
+  subjects : (own ≡ 0) ⊎ (other ≡ 0)
+  subjects = one-subject (start operands .args .k) own other (start operands .pre .0 .3) (c .before .own-column .ensures .1) (c .partner-column .ensures .1)
 
   own-range : let s = start operands in ColumnRange (s .args .w .now) (operands .operands-of .result .start) (operands .operands-of .result .rows) own (s .args .ranges .now) (6 * s .args .p + 3 * own)
   own-range =
@@ -131,13 +139,23 @@ module _ (c : tie.After-partner-column) where
       let s = start operands in
       apart-none (s .args .ranges .now) (s .pre .0 .0) (s .pre .1 .2) (s .args .p) (s .args .q) (s .pre .0 .1) (s .pre .0 .2) (s .args .k) own other (s .pre .0 .3) (c .before .own-column .ensures) (c .partner-column .ensures) e
 
-  -- and if they are not, objects that are searched are sorted
+  -- and if they are not, objects that are searched or walked are sorted, since subjects meet them
+  rows-sorted : let s = start operands in apart (s .args .ranges .now) (6 * s .args .p + 3 * own) (6 * s .args .q + 3 * other) ≡ false → own ≡ 1
+      → ObjectsSorted (s .args .w .now) (s .args .objects .now) (s .args .first) (operands .operands-of .result .start) (operands .operands-of .result .rows)
+  rows-sorted e object =
+      let s = start operands in
+      let tables = operands .operands-of .ensures .1 in
+      let subject : other ≡ 0 = ⊎-elim (λ z. absurd (omega arith)) (λ z. z) subjects in
+      let met : apart (s .args .ranges .now) (6 * s .args .q) (6 * s .args .p + 3) ≡ false =
+      apart-turned (s .args .ranges .now) _ _ ∙ ap₂ (apart (s .args .ranges .now)) (omega arith) (omega arith) ∙ e in
+      sorted-moved (s .pre .1 .3) (tables .start) (tables .rows) (s .pre .1 .1 (s .args .p) (s .pre .0 .1) (s .args .q) (s .pre .0 .2) met)
+
   partners-sorted : let s = start operands in apart (s .args .ranges .now) (6 * s .args .p + 3 * own) (6 * s .args .q + 3 * other) ≡ false → other ≡ 1
       → ObjectsSorted (s .args .w .now) (s .args .objects .now) (s .args .first) (operands .operands-of .result .against) (operands .operands-of .result .partners)
   partners-sorted e object =
       let s = start operands in
       let tables = operands .operands-of .ensures .1 in
-      let subject = subject-own (s .args .k) own other (s .pre .0 .3) (c .before .own-column .ensures .1) (c .partner-column .ensures .1) object in
+      let subject : own ≡ 0 = ⊎-elim (λ z. z) (λ z. absurd (omega arith)) subjects in
       let met : apart (s .args .ranges .now) (6 * s .args .p) (6 * s .args .q + 3) ≡ false =
       ap₂ (apart (s .args .ranges .now)) (omega arith) (omega arith) ∙ e in
       sorted-moved (s .pre .1 .3) (tables .against) (tables .partners) (s .pre .1 .1 (s .args .q) (s .pre .0 .2) (s .args .p) (s .pre .0 .1) met)
@@ -298,9 +316,13 @@ count-partnered-requires c κs =
     let e = c .before .before .before in
     let o = e .before .before .before .before .before .before .before in
     let columns = e .before .before in
+    let met = sym (e .before .columns-apart .ensures) ∙ e .if2 .left in
     let few = few-predicates (start o .pre .0 .0) in (
-      (o .operands-of .ensures .0 .inside, partners-searchable o, columns .before .own-column .ensures .0, columns .partner-column .ensures .0, partners-sorted columns (sym (e .before .columns-apart .ensures) ∙ e .if2 .left)),
-      (omega (arith, start o .pre .0 .1), omega (arith, start o .pre .0 .2), own-range columns, partner-range columns),
+      (rows-searchable o, columns .before .own-column .ensures .0, rows-sorted columns met),
+      (
+        (partners-searchable o, columns .partner-column .ensures .0, partners-sorted columns met),
+        (omega (arith, start o .pre .0 .1), omega (arith, start o .pre .0 .2), own-range columns, partner-range columns),
+      ),
     )
 
 returns-8 : tie.Need-returns-8

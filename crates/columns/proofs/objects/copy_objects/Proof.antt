@@ -9,6 +9,7 @@ use Rattle.tables.proofs.Images.{few-predicates, entries-inside, table-in}
 use Rattle.columns.specs.Searching.{AllSorted}
 use Rattle.columns.specs.Ranges.{AllMeasured}
 use Rattle.columns.proofs.ColumnRanges.{range-whole, measured-again}
+use Rattle.columns.proofs.Partnered.{same-answers}
 use Rattle.columns.proofs.SearchableTables.{behind-first, part-fits, all-searchable, one-more-sorted}
 use Rattle.columns.proofs.objects.copy_objects.Statement.{statement}
 use Rattle.columns.proofs.objects.copy_objects.Tie as tie
@@ -156,7 +157,7 @@ loop-again c =
           (λ e.
           let (asked, gapless) = put .copy-reached .ensures .1 e in
           let sorted = put .copy-reached .ensures .0 asked in
-          (sorted .same, sorted .ascend, gapless))
+          (same-answers (sorted .same), sorted .ascend, gapless))
           (inv .4 i (turn .loop-test .taken) 1 (omega arith))),
     )
 

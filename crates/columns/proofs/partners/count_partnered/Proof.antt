@@ -1,9 +1,8 @@
--- By the ranges all rows are left; else the rows whose value is one of the partners' words.
+-- By the ranges all rows are left; else as many as the own words that are values of the partners.
 use Prim.Native.Nat.{_+_, _*_}
 use native.Mathlib.Omega.{arith}
 use native.Mathlib.Nat.{le-refl}
-use mathlib.Core.Path.{_≡_, sym, ap, _∙_}
-use lib.ListN.{length}
+use mathlib.Core.Path.{_≡_, sym, _∙_}
 use borrow.Author.Tests.{leb-true}
 use Rattle.tables.proofs.Partners.{leftOf}
 use Rattle.columns.proofs.ColumnRanges.{all-left}
@@ -75,30 +74,32 @@ returns c =
     let s = c .before .before .before .before .before .before .before .before .before .before in
     let a = s .args in
     let o = a .o in
-    sym (all-left (a .w .now) (a .ranges .now) (6 * a .p + 3 * a .own) (6 * a .q + 3 * a .other) (o .start) (o .rows) (a .own) (o .against) (o .partners) (a .other) (s .pre .0 .2) (s .pre .0 .0)
-    (s .pre .1 .2) (s .pre .1 .3) (c .before .before .if1 .taken) (leb-true _ _ (c .before .if2 .taken)) (leb-true _ _ (c .if3 .taken)) (o .rows) (le-refl _))
+    sym (all-left (a .w .now) (a .ranges .now) (6 * a .p + 3 * a .own) (6 * a .q + 3 * a .other) (o .start) (o .rows) (a .own) (o .against) (o .partners) (a .other) (s .pre .0 .1) (s .pre .0 .0 .inside)
+    (s .pre .1 .1 .2) (s .pre .1 .1 .3) (c .before .before .if1 .taken) (leb-true _ _ (c .before .if2 .taken)) (leb-true _ _ (c .if3 .taken)) (o .rows) (le-refl _))
 
-count-words-requires : tie.Need-count-words-requires
-count-words-requires c κs = search needs
+count-values-requires : tie.Need-count-values-requires
+count-values-requires c κs = search needs
 
 returns-2 : tie.Need-returns-2
 returns-2 c =
     let s = c .before .before .before .before .before .before .before .before .before .before in
-    rw (c .before .if4 .taken) (c .count-words .ensures ∙ ap length (rows-left _ _ _ _ (s .args .own) 0 _ _ (λ x. same-subjects _ _ _ x (s .pre .0 .1 .inside))))
+    let a = s .args in
+    rw (c .before .if4 .taken) (c .count-values .ensures ∙ rows-left 0 (a .w .now) (a .o .against) (a .o .partners) (a .other) (same-subjects _ _ _ (s .pre .0 .0 .inside)))
 
-sub-count-words : tie.Need-sub-count-words
-sub-count-words c = search needs
+sub-copy : tie.Need-sub-copy
+sub-copy c = search needs
 
-count-words-requires-2 : tie.Need-count-words-requires-2
-count-words-requires-2 c κs =
-    let pre = c .before .before .before .before .before .before .before .before .before .before .pre .0 in
-    (pre .0, pre .2, omega arith, omega (arith, pre .1 .copied), pre .4 (omega (arith, pre .3, c .before .if4 .left)) .objects-ascend)
+count-values-requires-2 : tie.Need-count-values-requires-2
+count-values-requires-2 c κs =
+    let pre = c .before .before .before .before .before .before .before .before .before .before .pre in
+    ((omega arith, omega (arith, pre .0 .0 .copied), pre .0 .2 (omega (arith, pre .0 .1, c .before .if4 .left)) .objects-ascend), pre .1 .0)
 
 returns-3 : tie.Need-returns-3
 returns-3 c =
     let s = c .before .before .before .before .before .before .before .before .before .before .before in
-    let object : s .args .other ≡ 1 = omega (arith, s .pre .0 .3, c .before .before .if4 .left) in
-    rw object (c .count-words2 .ensures ∙ ap length (rows-left _ _ _ _ (s .args .own) 1 _ _ (s .pre .0 .4 object .same-objects)))
+    let a = s .args in
+    let object : a .own ≡ 1 = omega (arith, s .pre .0 .1, c .before .before .if4 .left) in
+    rw object (c .count-values2 .ensures ∙ rows-left 1 (a .w .now) (a .o .against) (a .o .partners) (a .other) (s .pre .0 .2 object .same-objects))
 
 pub count-partnered-spec : {M : Type 1} → statement M
 count-partnered-spec =
@@ -124,8 +125,8 @@ count-partnered-spec =
     mul-if1
     element-copy-out-if1
     returns
-    count-words-requires
+    count-values-requires
     returns-2
-    sub-count-words
-    count-words-requires-2
+    sub-copy
+    count-values-requires-2
     returns-3)

@@ -2,7 +2,7 @@
 use native.Mathlib.Omega.{arith}
 use mathlib.Core.Path.{_≡_, _∙_}
 use borrow.Author.Needs.{needs}
-use Rattle.columns.proofs.Partnered.{same-subjects}
+use Rattle.columns.proofs.Partnered.{same-answers, same-subjects}
 use Rattle.columns.proofs.partners.has_partner.Statement.{statement}
 use Rattle.columns.proofs.partners.has_partner.Tie as tie
 
@@ -12,7 +12,7 @@ has-word-requires c κs = search needs
 returns : tie.Need-returns
 returns c =
     let start = c .before .before .before .before in
-    c .has-word .ensures ∙ rw (c .before .if1 .taken) (same-subjects _ _ _ _ (start .pre .0 .inside))
+    c .has-word .ensures ∙ rw (c .before .if1 .taken) (same-answers (same-subjects _ _ _ (start .pre .0 .inside)) _)
 
 sub-has-word : tie.Need-sub-has-word
 sub-has-word c = search needs
@@ -26,7 +26,7 @@ returns-2 : tie.Need-returns-2
 returns-2 c =
     let start = c .before .before .before .before in
     let objects : start .args .column ≡ 1 = omega arith in
-    c .has-word2 .ensures ∙ rw objects (start .pre .2 objects .same-objects _)
+    c .has-word2 .ensures ∙ rw objects (same-answers (start .pre .2 objects .same-objects) _)
 
 pub has-partner-spec : {M : Type 1} → statement M
 has-partner-spec =

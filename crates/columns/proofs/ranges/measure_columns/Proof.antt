@@ -6,7 +6,7 @@ use lib.ListN.{length, getD, length-set}
 use Rattle.tables.proofs.Images.{few-predicates, entries-inside, table-in}
 use Rattle.columns.specs.Ranges.{AllMeasured}
 use Rattle.columns.proofs.ColumnRanges.{range-same, table-measured}
-use Rattle.columns.proofs.Partnered.{same-subjects}
+use Rattle.columns.proofs.Partnered.{same-answers, same-subjects}
 use Rattle.columns.proofs.SearchableTables.{ascending}
 use Rattle.columns.proofs.ranges.measure_columns.Statement.{statement}
 use Rattle.columns.proofs.ranges.measure_columns.Tie as tie
@@ -105,7 +105,7 @@ loop-again c =
       ap length (c .put-range2 .ensures) ∙ simp length-set (ap length (first .ensures) ∙ simp length-set (inv .1)),
       rw (c .put-range2 .ensures, first .ensures)
           (table-measured (start turn .args .w .now) (turn .before .loop .ranges) (turn .before .loop .i) (omega (arith, few turn, inv .1)) (inv .2)
-          (range-same (λ x. same-subjects _ _ _ x (inside turn)) (c .before .before .before .before .before .range-of .ensures))
+          (range-same (same-answers (same-subjects _ _ _ (inside turn))) (c .before .before .before .before .before .range-of .ensures))
           (c .before .before .object-range .ensures)),
     )
 
