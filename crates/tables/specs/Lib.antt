@@ -2,3 +2,4 @@
 pub mod NumberAt
 pub mod Columns
 pub mod SiteWords
+pub mod RowNumbers

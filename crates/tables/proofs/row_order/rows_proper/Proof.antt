@@ -21,7 +21,9 @@ are-terms-requires : tie.Need-are-terms-requires
 are-terms-requires c κs = search needs
 
 rows-ascend-requires : tie.Need-rows-ascend-requires
-rows-ascend-requires c κs = search needs
+rows-ascend-requires c κs =
+    let h = c .before .before .if1 .left in
+    (omega arith, c .before .before .before .before .pre, sym (c .before .are-terms .ensures) ∙ c .if2 .taken)
 
 returns-2 : tie.Need-returns-2
 returns-2 c =
