@@ -2,18 +2,51 @@
 use Prim.Native.Nat.{ℕ, _+_, _*_, _≤_}
 use native.Mathlib.Omega.{arith}
 use mathlib.Core.Path.{_≡_, refl, sym}
-use mathlib.Core.Bool.{true, false, cond}
+use mathlib.Core.Bool.{Bool, true, false, cond}
 use mathlib.Core.List.{List, []}
 use lib.ListN.{length, getD, take, drop}
 use borrow.Author.Tests.{eqb-true, leb-true, eq-eqb, le-leb}
 use Rattle.model.specs.Lists.{sameWords}
+use Rattle.model.specs.Site.{Row}
 use Rattle.model.specs.Tables.{isStored}
 use Rattle.model.specs.Store.{Reduced, isKept, kept, tableWords}
-use Rattle.model.proofs.Booleans.{and-cases, and-make, to-false}
+use Rattle.model.proofs.Booleans.{and-cases, and-make, not-both, to-false}
 use Rattle.columns.proofs.Comparing.{as-many}
-use Rattle.checking.specs.Joins.{joinHolds}
+use Rattle.checking.specs.Joins.{storedHolds, joinHolds}
 use Rattle.checking.specs.declared.entries.Place.{Place}
 use Rattle.checking.specs.declared.entries.Place.the-variants.{At, Wrong}
+
+-- ---- rows that are stored
+
+module _ (words : List ℕ) (rows : List Row) (start left here used : ℕ) where
+  -- what is compared
+  pub record Stored : Type 0 where
+    pub begins : start ≡ here
+    pub room : here + 2 * left ≤ used
+    pub same : sameWords (take (2 * left) (drop here words)) (tableWords rows) ≡ true
+
+  are-stored : storedHolds words rows start left here used ≡ true → Stored
+  unfolding storedHolds
+  are-stored e =
+      let (begun, rest) = and-cases _ _ e in
+      let (fits, stands) = and-cases _ _ rest in
+      record { begins = eqb-true _ _ begun; room = leb-true _ _ fits; same = stands }
+
+  stored-hold : Stored → storedHolds words rows start left here used ≡ true
+  unfolding storedHolds
+  stored-hold x = and-make (eq-eqb _ _ (x .begins)) (and-make (le-leb _ _ (x .room)) (x .same))
+
+  -- the answer that is given by them
+  abbrev pub storedEnd : Place
+  storedEnd = cond (storedHolds words rows start left here used) (At (here + 2 * left)) Wrong
+
+  pub stored-wrong : (Stored → ⊥) → Wrong ≡ storedEnd
+  stored-wrong h = rw (to-false _ (λ e. h (are-stored e))) refl
+
+  pub stored-at : Stored → At (here + 2 * left) ≡ storedEnd
+  stored-at x = rw (stored-hold x) refl
+
+-- ---- a semi-join
 
 module _ (t : ℕ) (words : List ℕ) (r : Reduced) (entry here used : ℕ) where
   abbrev left : ℕ
@@ -53,12 +86,6 @@ module _ (t : ℕ) (words : List ℕ) (r : Reduced) (entry here used : ℕ) wher
 
   -- ---- rows that are stored, by the count that the entry gives
 
-  -- what is compared then
-  pub record Stored : Type 0 where
-    pub begins : start ≡ here
-    pub room : here + 2 * left ≤ used
-    pub same : sameWords (take (2 * left) (drop here words)) (tableWords (r .rows)) ≡ true
-
   module _ (s : isStored t left (length (r .full)) ≡ true) where
     kept-stored : left ≡ length (r .rows) → (isKept t r ≡ true) × (kept t r ≡ r .rows)
     unfolding kept
@@ -66,18 +93,26 @@ module _ (t : ℕ) (words : List ℕ) (r : Reduced) (entry here used : ℕ) wher
         let known : isKept t r ≡ true = rw e at s in
         (known, rw known refl)
 
-    pub stored : Held → Stored
+    stored : Held → Stored words (r .rows) start left here used
     stored j =
         let (known, all) = kept-stored (j .count) in
         record { begins = rw known at (j .begins); room = rw (j .count, ← all) (j .room); same = rw (j .count, ← all) (j .same) }
 
-    pub ends-stored : Stored → used ≤ length words → At (here + 2 * left) ≡ end
-    ends-stored x inside =
+    at-end : Stored words (r .rows) start left here used → used ≤ length words → At (here + 2 * left) ≡ end
+    at-end x inside =
         let count : left ≡ length (r .rows) = sym (as-many words here left (omega (arith, x .room)) (r .rows) (x .same)) in
         let (known, all) = kept-stored count in
         ends-at
         (record { count = count; begins = rw known (x .begins); room = rw (all, ← count) (x .room); same = rw (all, ← count) (x .same) })
         (rw (all, ← count) refl)
+
+    -- the answer is then that of the rows
+    pub ends-stored : used ≤ length words → storedEnd words (r .rows) start left here used ≡ end
+    ends-stored inside = go (storedHolds words (r .rows) start left here used) refl
+      where
+        go : (b : Bool) → storedHolds words (r .rows) start left here used ≡ b → cond b (At (here + 2 * left)) Wrong ≡ end
+        go true e = at-end (are-stored _ _ _ _ _ _ e) inside
+        go false e = ends-wrong (λ j. not-both (stored-hold _ _ _ _ _ _ (stored j)) e)
 
   -- ---- rows that are not
 

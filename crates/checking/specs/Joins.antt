@@ -6,9 +6,14 @@ use mathlib.Core.List.{List}
 use lib.ListN.{length, getD, take, drop}
 use lib.Dec.{eqb, leb}
 use Rattle.model.specs.Lists.{sameWords}
+use Rattle.model.specs.Site.{Row}
 use Rattle.model.specs.Tables.{kindCount}
 use Rattle.model.specs.Store.{Reduced, semiJoins, isKept, kept, tableWords, semiJoinEntries, storedStart, keptWords}
 use Rattle.tables.specs.SiteWords.{siteIn, reducedAt, semiJoinPlace}
+
+-- rows that are stored at `here`, where `start` says, `left` of them, which end at `used` or before
+unfoldable pub storedHolds : List ℕ → List Row → ℕ → ℕ → ℕ → ℕ → Bool
+storedHolds words rows start left here used = eqb start here && (leb (here + 2 * left) used && sameWords (take (2 * left) (drop here words)) (tableWords rows))
 
 -- the entry at a place, and the rows at `here` if they are stored, which end at `used` or before
 unfoldable pub joinHolds : ℕ → List ℕ → Reduced → ℕ → ℕ → ℕ → Bool

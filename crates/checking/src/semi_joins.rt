@@ -1,14 +1,15 @@
 ghost use mathlib.Core.Path.{_≡_};
 ghost use Prim.Native.Nat.{ℕ, _<_, _≤_, _+_, _*_};
 ghost use mathlib.Core.Bool.{true, cond};
-ghost use lib.ListN.{length, getD};
+ghost use lib.ListN.{length, getD, drop};
 ghost use Rattle.model.specs.Site.{rowTotal};
-ghost use Rattle.model.specs.Tables.{kindCount, mostThreshold};
-ghost use Rattle.model.specs.Store.{kept, rowsStart, storedStart};
+ghost use Rattle.model.specs.Tables.{semiJoin, kindCount, mostThreshold};
+ghost use Rattle.model.specs.Store.{kept, rowsIn, rowsStart, storedStart};
+ghost use Rattle.tables.specs.Columns.{kindOfColumns};
 ghost use Rattle.tables.specs.SiteWords.{siteIn, ImageOf, reducedAt, semiJoinPlace};
-ghost use Rattle.columns.specs.Searching.{AllSearchable, AllSorted};
+ghost use Rattle.columns.specs.Searching.{Searchable, AllSearchable, ObjectsSorted, AllSorted};
 ghost use Rattle.columns.specs.Ranges.{AllMeasured};
-ghost use Rattle.checking.specs.Joins.{joinHolds, joinsHold, EmptyPair};
+ghost use Rattle.checking.specs.Joins.{storedHolds, joinHolds, joinsHold, EmptyPair};
 ghost use Rattle.checking.specs.declared.entries.Place.the-variants.{At, Wrong};
 use crate::entries::Place;
 use columns::objects::copy_objects;
@@ -18,10 +19,34 @@ use columns::ranges::columns_apart;
 use columns::ranges::measure_columns;
 use tables::kinds::KINDS;
 use tables::kinds::is_stored;
-use tables::kinds::own_column;
-use tables::kinds::partner_column;
+use tables::operands::Operands;
 use tables::operands::operands_of;
 use tables::operands::rows_start;
+
+// Where the `left` rows that a semi-join leaves end, if they stand at `here`, as their entry says by `start`, and end at `used` or before.
+fn stored_end(
+    w: &[u32],
+    objects: &[u32],
+    first: usize,
+    o: Operands,
+    start: usize,
+    left: usize,
+    here: usize,
+    used: usize,
+) -> Place
+    requires { ⌜ (o .start + 2 * o .rows ≤ length (now w)) × Searchable (now w) (now objects) first (o .against) (o .partners) × (o .own < 2) × (o .other < 2) ⌝ }
+    requires { ⌜ (o .other ≡ 1 → ObjectsSorted (now w) (now objects) first (o .against) (o .partners)) × (left ≤ o .rows) × (here ≤ used) × (used ≤ length (now w)) ⌝ }
+    ensures { λ r. ⌜ r ≡ cond (storedHolds (now (w .entry)) (semiJoin (kindOfColumns (o .own) (o .other)) (rowsIn (o .rows) (drop (o .start) (now (w .entry)))) (rowsIn (o .partners) (drop (o .against) (now (w .entry))))) start left here used) (At (here + 2 * left)) Wrong ⌝ }
+{
+    let end = here + 2 * left;
+    if start != here || used < end {
+        return Place::Wrong;
+    }
+    if compare_partnered(w, objects, first, o, here, left) {
+        return Place::At(end);
+    }
+    Place::Wrong
+}
 
 // Where the stored rows of the semi-join of kind k of p against q end, if they and its entry are as they should be and the rows begin at `here`.
 pub fn semi_join_end(
@@ -45,45 +70,20 @@ pub fn semi_join_end(
     let entry = o.entry;
     let left = w[entry] as usize;
     let start = w[entry + 1] as usize;
-    let rows = o.rows;
-    if rows < left {
+    if o.rows < left {
         return Place::Wrong;
     }
-    // By the kind: where the partners' column is the object, the own one is the subject.
-    let own = own_column(k);
-    let other = partner_column(k);
-    if columns_apart(ranges, 6 * p + 3 * own, 6 * q + 3 * other) {
+    if columns_apart(ranges, 6 * p + 3 * o.own, 6 * q + 3 * o.other) {
         // No row is left.
         if left != 0 || start != 0 {
             return Place::Wrong;
         }
         return Place::At(here);
     }
-    if is_stored(t, left, rows) {
-        if start != here || used < here + 2 * left {
-            return Place::Wrong;
-        }
-        if compare_partnered(
-            w,
-            objects,
-            first,
-            o.start,
-            rows,
-            own,
-            o.against,
-            o.partners,
-            other,
-            here,
-            left,
-        ) {
-            return Place::At(here + 2 * left);
-        }
-        return Place::Wrong;
+    if is_stored(t, left, o.rows) {
+        return stored_end(w, objects, first, o, start, left, here, used);
     }
-    if start != 0 {
-        return Place::Wrong;
-    }
-    if count_partnered(w, objects, first, ranges, p, q, o, own, other) != left {
+    if start != 0 || count_partnered(w, objects, first, ranges, p, q, o) != left {
         return Place::Wrong;
     }
     Place::At(here)

@@ -70,15 +70,14 @@ fn count_values(
     objects: &[u32],
     first: usize,
     o: Operands,
-    other: usize,
 ) -> usize
     requires { ⌜ (0 < stride) × (base + stride * o .rows ≤ length (now own)) × Ascending (now own) base stride (o .rows) ⌝ }
-    requires { ⌜ Searchable (now w) (now objects) first (o .against) (o .partners) × (other < 2) × (other ≡ 1 → ObjectsSorted (now w) (now objects) first (o .against) (o .partners)) ⌝ }
-    ensures { λ r. ⌜ r ≡ passing (now (own .entry)) base stride (o .rows) (hasValue (now (w .entry)) (o .against) (o .partners) other) ⌝ }
+    requires { ⌜ Searchable (now w) (now objects) first (o .against) (o .partners) × (o .other < 2) × (o .other ≡ 1 → ObjectsSorted (now w) (now objects) first (o .against) (o .partners)) ⌝ }
+    ensures { λ r. ⌜ r ≡ passing (now (own .entry)) base stride (o .rows) (hasValue (now (w .entry)) (o .against) (o .partners) (o .other)) ⌝ }
 {
     let m = o.rows;
     let n = o.partners;
-    if other == 0 {
+    if o.other == 0 {
         return count_common(own, base, stride, m, w, o.against, 2, n);
     }
     let copy = (o.against - first) / 2;
@@ -95,16 +94,14 @@ pub fn count_partnered(
     p: usize,
     q: usize,
     o: Operands,
-    own: usize,
-    other: usize,
 ) -> usize
-    requires { ⌜ Searchable (now w) (now objects) first (o .start) (o .rows) × (own < 2) × (own ≡ 1 → ObjectsSorted (now w) (now objects) first (o .start) (o .rows)) ⌝ }
-    requires { ⌜ Searchable (now w) (now objects) first (o .against) (o .partners) × (other < 2) × (other ≡ 1 → ObjectsSorted (now w) (now objects) first (o .against) (o .partners)) ⌝ }
-    requires { ⌜ (p < mostPredicates) × (q < mostPredicates) × ColumnRange (now w) (o .start) (o .rows) own (now ranges) (6 * p + 3 * own) × ColumnRange (now w) (o .against) (o .partners) other (now ranges) (6 * q + 3 * other) ⌝ }
-    ensures { λ r. ⌜ r ≡ length (semiJoin (kindOfColumns own other) (rowsIn (o .rows) (drop (o .start) (now (w .entry)))) (rowsIn (o .partners) (drop (o .against) (now (w .entry))))) ⌝ }
+    requires { ⌜ Searchable (now w) (now objects) first (o .start) (o .rows) × (o .own < 2) × (o .own ≡ 1 → ObjectsSorted (now w) (now objects) first (o .start) (o .rows)) ⌝ }
+    requires { ⌜ Searchable (now w) (now objects) first (o .against) (o .partners) × (o .other < 2) × (o .other ≡ 1 → ObjectsSorted (now w) (now objects) first (o .against) (o .partners)) ⌝ }
+    requires { ⌜ (p < mostPredicates) × (q < mostPredicates) × ColumnRange (now w) (o .start) (o .rows) (o .own) (now ranges) (6 * p + 3 * o .own) × ColumnRange (now w) (o .against) (o .partners) (o .other) (now ranges) (6 * q + 3 * o .other) ⌝ }
+    ensures { λ r. ⌜ r ≡ length (semiJoin (kindOfColumns (o .own) (o .other)) (rowsIn (o .rows) (drop (o .start) (now (w .entry)))) (rowsIn (o .partners) (drop (o .against) (now (w .entry))))) ⌝ }
 {
-    let a = 6 * p + 3 * own;
-    let b = 6 * q + 3 * other;
+    let a = 6 * p + 3 * o.own;
+    let b = 6 * q + 3 * o.other;
     let lowest = ranges[a];
     let highest = ranges[a + 1];
     let partner_lowest = ranges[b];
@@ -112,11 +109,11 @@ pub fn count_partnered(
     if ranges[b + 2] == 1 && partner_lowest <= lowest && highest <= partner_highest {
         return o.rows;
     }
-    if own == 0 {
-        return count_values(w, o.start, 2, w, objects, first, o, other);
+    if o.own == 0 {
+        return count_values(w, o.start, 2, w, objects, first, o);
     }
     let copy = (o.start - first) / 2;
-    count_values(objects, copy, 1, w, objects, first, o, other)
+    count_values(objects, copy, 1, w, objects, first, o)
 }
 
 // Whether the k rows at `at` are those that are left, in their order.
@@ -124,19 +121,20 @@ pub fn compare_partnered(
     w: &[u32],
     objects: &[u32],
     first: usize,
-    p: usize,
-    m: usize,
-    own: usize,
-    q: usize,
-    n: usize,
-    other: usize,
+    o: Operands,
     at: usize,
     k: usize,
 ) -> bool
-    requires { ⌜ (p + 2 * m ≤ length (now w)) × Searchable (now w) (now objects) first q n × (own < 2) × (other < 2) ⌝ }
-    requires { ⌜ (at + 2 * k ≤ length (now w)) × (other ≡ 1 → ObjectsSorted (now w) (now objects) first q n) ⌝ }
-    ensures { λ r. ⌜ r ≡ sameWords (take (2 * k) (drop at (now (w .entry)))) (tableWords (semiJoin (kindOfColumns own other) (rowsIn m (drop p (now (w .entry)))) (rowsIn n (drop q (now (w .entry)))))) ⌝ }
+    requires { ⌜ (o .start + 2 * o .rows ≤ length (now w)) × Searchable (now w) (now objects) first (o .against) (o .partners) × (o .own < 2) × (o .other < 2) ⌝ }
+    requires { ⌜ (at + 2 * k ≤ length (now w)) × (o .other ≡ 1 → ObjectsSorted (now w) (now objects) first (o .against) (o .partners)) ⌝ }
+    ensures { λ r. ⌜ r ≡ sameWords (take (2 * k) (drop at (now (w .entry)))) (tableWords (semiJoin (kindOfColumns (o .own) (o .other)) (rowsIn (o .rows) (drop (o .start) (now (w .entry)))) (rowsIn (o .partners) (drop (o .against) (now (w .entry)))))) ⌝ }
 {
+    let p = o.start;
+    let m = o.rows;
+    let own = o.own;
+    let q = o.against;
+    let n = o.partners;
+    let other = o.other;
     let end = at + 2 * k;
     let mut next = at;
     for i in 0..m {

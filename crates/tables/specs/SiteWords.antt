@@ -7,9 +7,9 @@ use lib.ListN.{length, getD, take, drop}
 use Rattle.model.specs.Lists.{sameWords}
 use Rattle.model.specs.SiteFile.{Declaration, declaredTotal, declaredProper}
 use Rattle.model.specs.Site.{Site, isSite}
-use Rattle.model.specs.Tables.{semiJoin, kindCount}
+use Rattle.model.specs.Tables.{semiJoin, kindAt, kindCount}
 use Rattle.model.specs.Store.{Reduced, semiJoins, rowsStart, rowsIn, tablesIn, storedStart, vpEntries, vpWords}
-use Rattle.tables.specs.Columns.{kindOfColumns}
+use Rattle.tables.specs.Columns.{columnOf, kindOfColumns}
 use Rattle.tables.specs.declared.operands.Operands.{Operands}
 
 -- ---- the entries
@@ -73,12 +73,14 @@ pub record OperandsOf (site : Site) (image : List ℕ) (x : ℕ) (r : Operands) 
   pub left : semiJoin (kindOfColumns (r .own) (r .other)) (rowsIn (r .rows) (drop (r .start) image)) (rowsIn (r .partners) (drop (r .against) image))
       ≡ reducedAt site x .rows
 
--- the operands are the tables of predicates p and q, as their entries have them
-pub record TablesOf (image : List ℕ) (p q : ℕ) (r : Operands) : Type 0 where
+-- the operands are the tables of predicates p and q, as their entries have them, and the columns of kind k
+pub record TablesOf (image : List ℕ) (p q k : ℕ) (r : Operands) : Type 0 where
   pub start : r .start ≡ getD image (3 + 3 * p + 2) 0
   pub rows : r .rows ≡ getD image (3 + 3 * p + 1) 0
   pub against : r .against ≡ getD image (3 + 3 * q + 2) 0
   pub partners : r .partners ≡ getD image (3 + 3 * q + 1) 0
+  pub own-kind : columnOf (r .own) ≡ kindAt k .0
+  pub partner-kind : columnOf (r .other) ≡ kindAt k .1
 
 -- the entries of an image have the row counts of the semi-joins
 pub record CountsIn (count : ℕ) (image : List ℕ) : Type 0 where

@@ -34,7 +34,7 @@ pub struct Operands {
 pub fn operands_of(image: &[u32], count: usize, p: usize, q: usize, k: usize) -> Operands
     requires { ⌜ ImageOf count (now image) × (p < count) × (q < count) × (k < kindCount) ⌝ }
     ensures { λ r. ⌜ OperandsOf (siteIn count (now (image .entry))) (now (image .entry)) (semiJoinPlace count p q k) r ⌝ }
-    ensures { λ r. ⌜ TablesOf (now (image .entry)) p q r ⌝ }
+    ensures { λ r. ⌜ TablesOf (now (image .entry)) p q k r ⌝ }
 {
     let row_entry = 3 + 3 * p;
     let partner_entry = 3 + 3 * q;

@@ -18,15 +18,16 @@ use Rattle.columns.proofs.partners.compare_partnered.Statement.{stateme
 use Rattle.columns.proofs.partners.compare_partnered.Tie as tie
 
 abbrev Inv-loop : tie.InvT-loop
-Inv-loop w objects first p m own q n other at k end next₀ i₀ next i = (i ≤ m) × Compared w at k (leftOf w p i own q n other) next
+Inv-loop w objects first at k p m own q n other end next₀ i₀ next i = (i ≤ m) × Compared w at k (leftOf w p i own q n other) next
 
 abbrev μ-loop : tie.MeasureT-loop
-μ-loop w objects first p m own q n other at k end next₀ i₀ next i = m - i
+μ-loop w objects first at k p m own q n other end next₀ i₀ next i = m - i
 
 -- what is answered is whether row i has a partner
 answer : (c : tie.After-has-partner Inv-loop μ-loop) →
     let args = c .before .before .before .before .before .before .args in
-    hasPartner (args .w .now) (args .p) (c .before .before .before .loop .i) (args .own) (args .q) (args .n) (args .other) ≡ c .has-partner .result
+    let o = args .o in
+    hasPartner (args .w .now) (o .start) (c .before .before .before .loop .i) (o .own) (o .against) (o .partners) (o .other) ≡ c .has-partner .result
 answer c =
     let start = c .before .before .before .before .before .before in
     partner-of-value _ _ _ _ _ _ _ (start .pre .0 .2) ∙ sym (c .has-partner .ensures)
@@ -35,8 +36,9 @@ answer c =
 at-hand : (c : tie.Then1 Inv-loop μ-loop) →
     let outer = c .before .before .before .before in
     let args = outer .before .before .before .args in
-    let left : ℕ → List Row = λ i. leftOf (args .w .now) (args .p) i (args .own) (args .q) (args .n) (args .other) in
-    Block (left (args .m)) (length (left (outer .loop .i))) (rowAt (args .w .now) (args .p) (outer .loop .i) ∷ [])
+    let o = args .o in
+    let left : ℕ → List Row = λ i. leftOf (args .w .now) (o .start) i (o .own) (o .against) (o .partners) (o .other) in
+    Block (left (o .rows)) (length (left (outer .loop .i))) (rowAt (args .w .now) (o .start) (outer .loop .i) ∷ [])
 at-hand c = left-block _ _ _ _ _ _ _ (answer (c .before) ∙ c .if1 .taken) _ (omega arith) (omega arith)
 
 mul-end : tie.Need-mul-end Inv-loop μ-loop
@@ -137,7 +139,7 @@ returns-3 : tie.Need-returns-3 Inv-loop μ-loop
 unfolding leftOf
 returns-3 c =
     let start = c .before .before .before .before in
-    let all : c .before .loop .i ≡ start .args .m = omega arith in
+    let all : c .before .loop .i ≡ start .args .o .rows = omega arith in
     verdict _ _ _ (start .pre .1 .0) (rw all at (c .before .loop .inv .1))
 
 pub compare-partnered-spec : {M : Type 1} → statement M

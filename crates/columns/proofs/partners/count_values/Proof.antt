@@ -11,7 +11,7 @@ count-common-requires c κs = search needs
 
 returns : tie.Need-returns
 returns c =
-    let s = c .before .before .before .before .before in
+    let s = c .before .before .before .before .before .before in
     rw (c .before .if1 .taken) (c .count-common .ensures ∙ passing-same _ _ _ _ _ _ (same-answers (same-subjects _ _ _ (s .pre .1 .0 .inside))))
 
 sub-copy : tie.Need-sub-copy
@@ -19,13 +19,13 @@ sub-copy c = search needs
 
 count-common-requires-2 : tie.Need-count-common-requires-2
 count-common-requires-2 c κs =
-    let pre = c .before .before .before .before .before .pre in
+    let pre = c .before .before .before .before .before .before .pre in
     (pre .0, (omega arith, omega (arith, pre .1 .0 .copied), pre .1 .2 (omega (arith, pre .1 .1, c .before .if1 .left)) .objects-ascend))
 
 returns-2 : tie.Need-returns-2
 returns-2 c =
-    let s = c .before .before .before .before .before .before in
-    let object : s .args .other ≡ 1 = omega (arith, s .pre .1 .1, c .before .before .if1 .left) in
+    let s = c .before .before .before .before .before .before .before in
+    let object : s .args .o .other ≡ 1 = omega (arith, s .pre .1 .1, c .before .before .if1 .left) in
     rw object (c .count-common2 .ensures ∙ passing-same _ _ _ _ _ _ (same-answers (s .pre .1 .2 object .same-objects)))
 
 pub count-values-spec : {M : Type 1} → statement M

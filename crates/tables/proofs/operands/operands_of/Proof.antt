@@ -109,9 +109,11 @@ cast-t37 c = fits-widen tt (c .shared-slice-known5 .given _)
 
 returns : tie.Need-returns
 returns c =
-    let start = c .before .before .before .before .before .before .before in (
-      operands-of (start .pre .0) _ _ _ _ _ (start .pre .1) (start .pre .2) (start .pre .3) (c .before .before .before .before .before .own-column .ensures) (c .before .before .before .before .partner-column .ensures),
-      record { start = refl; rows = refl; against = refl; partners = refl },
+    let start = c .before .before .before .before .before .before .before in
+    let mine = c .before .before .before .before .before .own-column .ensures in
+    let theirs = c .before .before .before .before .partner-column .ensures in (
+      operands-of (start .pre .0) _ _ _ _ _ (start .pre .1) (start .pre .2) (start .pre .3) mine theirs,
+      record { start = refl; rows = refl; against = refl; partners = refl; own-kind = mine .1; partner-kind = theirs .1 },
     )
 
 pub operands-of-spec : {M : Type 1} → statement M
