@@ -1,4 +1,4 @@
-/* As the engine is: question 10 by ranges and search. Included by plain.c. */
+/* As the engine is: question 10 by ranges, by walking two columns, and by search. Included by plain.c. */
 
 static bool search_word(const uint32_t *words, size_t stride, size_t n, uint32_t value) {
     return words[stride * (n - 1)] >= value && words[stride * words_below(words, stride, n, value)] == value;
@@ -77,10 +77,15 @@ static void copy_objects(const uint32_t *store, size_t count, struct sorted *sor
     }
 }
 
-static uint32_t count_words(const uint32_t *rows, size_t m, size_t own, struct column partners) {
+/* Both ascend, and are walked once. */
+static uint32_t count_common(struct column own, struct column partners) {
     uint32_t kept = 0;
-    for (size_t i = 0; i < m; i++)
-        if (has_word(partners.words, partners.stride, partners.n, rows[2 * i + own])) kept++;
+    size_t place = 0;
+    for (size_t i = 0; i < own.n; i++) {
+        const uint32_t value = own.words[own.stride * i];
+        while (place < partners.n && partners.words[partners.stride * place] < value) place++;
+        if (place < partners.n && partners.words[partners.stride * place] == value) kept++;
+    }
     return kept;
 }
 
@@ -94,9 +99,9 @@ static bool compare_partnered(const uint32_t *rows, size_t m, size_t own, struct
 }
 
 /* All are left where the one range is within the other and that has no gaps; columns that are apart do not come here. */
-static uint32_t count_partnered(const uint32_t *rows, size_t m, size_t own, struct column partners, const struct range *a, const struct range *b) {
-    if (b->whole && b->lowest <= a->lowest && a->highest <= b->highest) return (uint32_t)m;
-    return count_words(rows, m, own, partners);
+static uint32_t count_partnered(struct column own, struct column partners, const struct range *a, const struct range *b) {
+    if (b->whole && b->lowest <= a->lowest && a->highest <= b->highest) return (uint32_t)own.n;
+    return count_common(own, partners);
 }
 
 /* Where the stored rows of the semi-join of kind k of p against q end, if they begin at `here`; 0 where they or its entry are wrong. */
@@ -110,7 +115,17 @@ static size_t semi_join_end(const uint32_t *store, const struct sorted *sorted, 
     const struct column partners = column_of(store, sorted->objects, count, q, other);
     if (is_stored(store[1], entry[0], (uint32_t)m))
         return entry[1] == here && end <= used && compare_partnered(rows, m, own, partners, store + here, store + end) ? end : 0;
-    return entry[1] == 0 && count_partnered(rows, m, own, partners, a, b) == entry[0] ? here : 0;
+    return entry[1] == 0 && count_partnered(column_of(store, sorted->objects, count, p, own), partners, a, b) == entry[0] ? here : 0;
+}
+
+/* No semi-join of p against q leaves a row, by the ranges, and the entries say so. */
+static bool is_empty_pair(const uint32_t *store, const struct sorted *sorted, size_t count, size_t p, size_t q) {
+    const uint32_t *entry = store + 3 + 3 * count + 2 * ((p * count + q) * KINDS);
+    for (size_t k = 0; k < KINDS; k++)
+        if (!columns_apart(&sorted->ranges[2 * p + own_column[k]], &sorted->ranges[2 * q + partner_column[k]])) return false;
+    for (size_t i = 0; i < 2 * KINDS; i++)
+        if (entry[i] != 0) return false;
+    return true;
 }
 
 static bool site_holds(const uint32_t *store, size_t count, size_t here, size_t used) {
@@ -119,8 +134,10 @@ static bool site_holds(const uint32_t *store, size_t count, size_t here, size_t 
     measure_columns(store, count, &sorted);
     copy_objects(store, count, &sorted);
     for (size_t p = 0; p < count; p++)
-        for (size_t q = 0; q < count; q++)
+        for (size_t q = 0; q < count; q++) {
+            if (is_empty_pair(store, &sorted, count, p, q)) continue;
             for (size_t k = 0; k < KINDS; k++)
                 if ((here = semi_join_end(store, &sorted, count, p, q, k, here, used)) == 0) return false;
+        }
     return here == used;
 }
