@@ -6,20 +6,36 @@ use mathlib.Core.Path.{_≡_, refl, sym, ap, ap₂, _∙_}
 use mathlib.Core.Logic.{⊎-elim, inl, inr}
 use mathlib.Core.Bool.{true, false}
 use mathlib.Core.List.{List}
-use lib.ListN.{length, getD}
-use lib.Dec.{ltb}
-use borrow.Author.Tests.{ltb-true}
+use lib.ListN.{length, getD, take, drop}
+use lib.Dec.{eqb, ltb}
+use borrow.Author.Tests.{eqb-true, ltb-true}
+use Rattle.model.specs.Lists.{all}
 use Rattle.model.specs.Tables.{kindAt, kindCount, isStored}
-use Rattle.model.proofs.Booleans.{or-cases}
+use Rattle.model.specs.Store.{Reduced}
+use Rattle.model.proofs.Booleans.{and-cases, or-cases}
 use Rattle.tables.specs.Columns.{columnOf}
 use Rattle.tables.specs.SiteWords.{siteIn, ImageOf, reducedAt, semiJoinPlace}
+use Rattle.tables.proofs.Images.{entries-inside}
+use Rattle.tables.proofs.Proper.{word-passes}
 use Rattle.tables.proofs.Entries.{place-below, operands-of}
 use Rattle.tables.proofs.Partners.{leftOf}
 use Rattle.columns.specs.Ranges.{AllMeasured, apart}
 use Rattle.columns.proofs.ColumnRanges.{none-left}
-use Rattle.checking.specs.Joins.{EmptyPair}
+use Rattle.checking.specs.Joins.{emptyPair}
 use Rattle.checking.proofs.Join.{ends-not-stored}
 use Rattle.checking.proofs.Joined.{Joined, joined-more}
+
+-- no row is left, and the entry at a place says so
+pub record EmptyJoin (words : List ℕ) (x : Reduced) (entry : ℕ) : Type 0 where
+  pub no-row : length (x .rows) ≡ 0
+  pub no-count : getD words entry 0 ≡ 0
+  pub no-start : getD words (entry + 1) 0 ≡ 0
+
+-- so for each kind of p against q
+abbrev pub EmptyPair : ℕ → List ℕ → ℕ → ℕ → Type 0
+EmptyPair count words p q =
+    (k : ℕ) → k < kindCount
+    → EmptyJoin words (reducedAt (siteIn count words) (semiJoinPlace count p q k)) (3 + 3 * count + 2 * semiJoinPlace count p q k)
 
 module _ {count : ℕ} {words : List ℕ} (ranges : List ℕ) (image : ImageOf count words) (measured : AllMeasured words ranges count) (p q : ℕ) (h : p < count) (l : q < count) where
   -- columns that are apart leave no row
@@ -36,20 +52,36 @@ module _ {count : ℕ} {words : List ℕ} (ranges : List ℕ) (image : ImageOf c
       (measured p h own (mine .0)) (measured q l other (theirs .0))
       (⊎-elim (λ x. inl (ltb-true _ _ x)) (λ x. inr (ltb-true _ _ x)) (or-cases (ltb (getD ranges (a + 1) 0) (getD ranges b 0)) (ltb (getD ranges (b + 1) 0) (getD ranges a 0)) e)) n (le-refl _)
 
-  -- the subjects of p are apart from both columns of q, its objects from the subjects; six words are 0
-  pub empty-pair : apart ranges (6 * p) (6 * q) ≡ true → apart ranges (6 * p + 3) (6 * q) ≡ true → apart ranges (6 * p) (6 * q + 3) ≡ true
-      → ((i : ℕ) → i < 6 → getD words (3 + 3 * count + 2 * ((p * count + q) * 3) + i) 0 ≡ 0) → EmptyPair count words p q
-  empty-pair ss os so zeros k m = record {
-    no-row = rows k m;
-    no-count = ap (λ (n : ℕ). getD words n 0) (omega arith) ∙ zeros (2 * k) (omega arith);
-    no-start = ap (λ (n : ℕ). getD words n 0) (omega arith) ∙ zeros (2 * k + 1) (omega arith);
-  }
-    where
-      rows : (k : ℕ) → k < kindCount → length (reducedAt (siteIn count words) (semiJoinPlace count p q k) .rows) ≡ 0
-      rows zero m = apart-none 0 0 0 m (omega arith, refl) (omega arith, refl) (ap₂ (apart ranges) (omega arith) (omega arith) ∙ ss)
-      rows (suc zero) m = apart-none 1 1 0 m (omega arith, refl) (omega arith, refl) (ap₂ (apart ranges) (omega arith) (omega arith) ∙ os)
-      rows (suc (suc zero)) m = apart-none 2 0 1 m (omega arith, refl) (omega arith, refl) (ap₂ (apart ranges) (omega arith) (omega arith) ∙ so)
-      rows (suc (suc (suc k))) m = absurd (omega arith)
+  -- the columns of the three kinds are apart
+  no-rows : apart ranges (6 * p) (6 * q) ≡ true → apart ranges (6 * p + 3) (6 * q) ≡ true → apart ranges (6 * p) (6 * q + 3) ≡ true
+      → (k : ℕ) → k < kindCount → length (reducedAt (siteIn count words) (semiJoinPlace count p q k) .rows) ≡ 0
+  no-rows ss os so zero m = apart-none 0 0 0 m (omega arith, refl) (omega arith, refl) (ap₂ (apart ranges) (omega arith) (omega arith) ∙ ss)
+  no-rows ss os so (suc zero) m = apart-none 1 1 0 m (omega arith, refl) (omega arith, refl) (ap₂ (apart ranges) (omega arith) (omega arith) ∙ os)
+  no-rows ss os so (suc (suc zero)) m = apart-none 2 0 1 m (omega arith, refl) (omega arith, refl) (ap₂ (apart ranges) (omega arith) (omega arith) ∙ so)
+  no-rows ss os so (suc (suc (suc k))) m = absurd (omega arith)
+
+  -- the six words of their entries are 0
+  zero-word : all (eqb 0) (take (2 * kindCount) (drop (3 + 3 * count + 2 * ((p * count + q) * kindCount)) words)) ≡ true
+      → (j i : ℕ) → i < 2 * kindCount → j ≡ 3 + 3 * count + 2 * ((p * count + q) * kindCount) + i → getD words j 0 ≡ 0
+  zero-word zeros j i m e =
+      let inside = place-below p q 2 h l (omega arith) in
+      let word = word-passes (eqb 0) words (3 + 3 * count + 2 * ((p * count + q) * kindCount)) (2 * kindCount) i (omega (arith, entries-inside image)) zeros m in
+      rw e (sym (eqb-true 0 _ word))
+
+  pub empty-pair : (k : ℕ) → emptyPair count words ranges p q k ≡ true → (k ≡ 0) × EmptyPair count words p q
+  unfolding emptyPair
+  empty-pair k e =
+      let (first, ranged) = and-cases (eqb k 0) _ e in
+      let (ss, others) = and-cases (apart ranges (6 * p) (6 * q)) _ ranged in
+      let (os, last) = and-cases (apart ranges (6 * p + 3) (6 * q)) _ others in
+      let (so, zeros) = and-cases (apart ranges (6 * p) (6 * q + 3)) _ last in (
+        eqb-true k 0 first,
+        λ n m. record {
+          no-row = no-rows ss os so n m;
+          no-count = zero-word zeros _ (2 * n) (omega arith) (omega arith);
+          no-start = zero-word zeros _ (2 * n + 1) (omega arith) (omega arith);
+        },
+      )
 
 -- no row is stored of none
 pub none-stored : (t left rows : ℕ) → left ≡ 0 → isStored t left rows ≡ false

@@ -1,15 +1,15 @@
 -- The entries and the stored rows of semi-joins, as words hold them.
-use Prim.Native.Nat.{ℕ, _+_, _*_, _-_, _<_}
-use mathlib.Core.Path.{_≡_}
+use Prim.Native.Nat.{ℕ, _+_, _*_, _-_}
 use mathlib.Core.Bool.{Bool, cond, _&&_}
 use mathlib.Core.List.{List}
 use lib.ListN.{length, getD, take, drop}
 use lib.Dec.{eqb, leb}
-use Rattle.model.specs.Lists.{sameWords}
+use Rattle.model.specs.Lists.{all, sameWords}
 use Rattle.model.specs.Site.{Row}
 use Rattle.model.specs.Tables.{kindCount}
 use Rattle.model.specs.Store.{Reduced, semiJoins, isKept, kept, tableWords, semiJoinEntries, storedStart, keptWords}
-use Rattle.tables.specs.SiteWords.{siteIn, reducedAt, semiJoinPlace}
+use Rattle.tables.specs.SiteWords.{siteIn}
+use Rattle.columns.specs.Ranges.{apart}
 
 -- rows that are stored at `here`, where `start` says, `left` of them, which end at `used` or before
 unfoldable pub storedHolds : List ℕ → List Row → ℕ → ℕ → ℕ → ℕ → Bool
@@ -28,14 +28,11 @@ joinsHold t count words used =
     sameWords (take (2 * (count * (count * kindCount))) (drop (3 + 3 * count) words)) (semiJoinEntries t (storedStart site) (semiJoins site))
     && sameWords (take (used - storedStart site) (drop (storedStart site) words)) (keptWords t (semiJoins site))
 
--- no row is left, and the entry at a place says so
-pub record EmptyJoin (words : List ℕ) (x : Reduced) (entry : ℕ) : Type 0 where
-  pub no-row : length (x .rows) ≡ 0
-  pub no-count : getD words entry 0 ≡ 0
-  pub no-start : getD words (entry + 1) 0 ≡ 0
-
--- so for each kind of p against q
-abbrev pub EmptyPair : ℕ → List ℕ → ℕ → ℕ → Type 0
-EmptyPair count words p q =
-    (k : ℕ) → k < kindCount
-    → EmptyJoin words (reducedAt (siteIn count words) (semiJoinPlace count p q k)) (3 + 3 * count + 2 * semiJoinPlace count p q k)
+-- at the first kind: the columns that the three kinds of p against q compare are apart, and the six words of their entries are 0
+unfoldable pub emptyPair : ℕ → List ℕ → List ℕ → ℕ → ℕ → ℕ → Bool
+emptyPair count words ranges p q k =
+    eqb k 0
+    && (apart ranges (6 * p) (6 * q)
+    && (apart ranges (6 * p + 3) (6 * q)
+    && (apart ranges (6 * p) (6 * q + 3)
+    && all (eqb 0) (take (2 * kindCount) (drop (3 + 3 * count + 2 * ((p * count + q) * kindCount)) words)))))

@@ -1,7 +1,9 @@
 ghost use mathlib.Core.Path.{_≡_};
-ghost use Prim.Native.Nat.{ℕ, _<_, _≤_, _+_, _*_};
-ghost use mathlib.Core.Bool.{true, cond};
-ghost use lib.ListN.{length, getD, drop};
+ghost use Prim.Native.Nat.{_<_, _≤_, _+_, _*_};
+ghost use mathlib.Core.Bool.{cond};
+ghost use lib.ListN.{length, take, drop};
+ghost use lib.Dec.{eqb};
+ghost use Rattle.model.specs.Lists.{all};
 ghost use Rattle.model.specs.Site.{rowTotal};
 ghost use Rattle.model.specs.Tables.{semiJoin, kindCount, mostThreshold};
 ghost use Rattle.model.specs.Store.{kept, rowsIn, rowsStart, storedStart};
@@ -9,7 +11,7 @@ ghost use Rattle.tables.specs.Columns.{kindOfColumns};
 ghost use Rattle.tables.specs.SiteWords.{siteIn, ImageOf, reducedAt, semiJoinPlace};
 ghost use Rattle.columns.specs.Searching.{Searchable, AllSearchable, ObjectsSorted, AllSorted};
 ghost use Rattle.columns.specs.Ranges.{AllMeasured};
-ghost use Rattle.checking.specs.Joins.{storedHolds, joinHolds, joinsHold, EmptyPair};
+ghost use Rattle.checking.specs.Joins.{storedHolds, joinHolds, joinsHold, emptyPair};
 ghost use Rattle.checking.specs.declared.entries.Place.the-variants.{At, Wrong};
 use crate::entries::Place;
 use columns::objects::copy_objects;
@@ -89,10 +91,10 @@ pub fn semi_join_end(
     Place::At(here)
 }
 
-// Whether the n words from `start` on are 0; promised where it says so.
+// Whether the n words from `start` on are 0.
 fn are_zero(w: &[u32], start: usize, n: usize) -> bool
     requires { ⌜ start + n ≤ length (now w) ⌝ }
-    ensures { λ r. ⌜ (r ≡ true → (i : ℕ) → i < n → getD (now (w .entry)) (start + i) 0 ≡ 0) ⌝ }
+    ensures { λ r. ⌜ r ≡ all (eqb 0) (take n (drop start (now (w .entry)))) ⌝ }
 {
     for i in 0..n {
         if w[start + i] != 0 {
@@ -105,7 +107,7 @@ fn are_zero(w: &[u32], start: usize, n: usize) -> bool
 // Whether, by the ranges, no semi-join of p against q leaves a row, and the entries say so: asked once for the kinds, at the first of them.
 fn is_empty_pair(w: &[u32], ranges: &[u32; 96], count: usize, p: usize, q: usize, k: usize) -> bool
     requires { ⌜ ImageOf count (now w) × (p < count) × (q < count) × AllMeasured (now w) (now ranges) count ⌝ }
-    ensures { λ r. ⌜ (r ≡ true → (k ≡ 0) × EmptyPair count (now (w .entry)) p q) ⌝ }
+    ensures { λ r. ⌜ r ≡ emptyPair count (now (w .entry)) (now (ranges .entry)) p q k ⌝ }
 {
     if k != 0 {
         return false;

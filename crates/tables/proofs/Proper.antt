@@ -4,12 +4,12 @@ use native.Mathlib.Omega.{arith}
 use native.Mathlib.Numerals.{add-one}
 use mathlib.Core.Path.{_≡_, refl, sym}
 use mathlib.Core.Logic.{_⊎_, inl, inr, ⊎-elim}
-use mathlib.Core.Bool.{true, false, _&&_, and-true, and-assoc}
+use mathlib.Core.Bool.{Bool, true, false, _&&_, and-true, and-assoc}
 use mathlib.Core.List.{List, [], _∷_}
 use lib.ListN.{length, getD, take, drop, length-drop}
 use lib.Seq.{take-suc, getD-take, getD-drop, length-take-le}
 use lib.Dec.{ltb}
-use borrow.Author.Tests.{leb-true, ltb-true, ltb-false, lt-ltb}
+use borrow.Author.Tests.{ltb-true, ltb-false, lt-ltb}
 use Rattle.model.specs.Lists.{all, ascends, aboveLast}
 use Rattle.model.specs.Numbers.{mostTerm, isTerm}
 use Rattle.model.specs.Site.{Row, rowBefore, rowsProper}
@@ -21,12 +21,21 @@ use Rattle.model.proofs.Growing.{above-snoc}
 use Rattle.tables.specs.RowNumbers.{rowNumber}
 use Rattle.tables.proofs.Rows.{rowAt, rows-at, rows-words}
 
--- one word more
-pub term-more : (w : List ℕ) (start i : ℕ) → start + i < length w
-    → all isTerm (take (i + 1) (drop start w)) ≡ (all isTerm (take i (drop start w)) && isTerm (getD w (start + i) 0))
-term-more w start i h =
-    let long = length-drop start w in
-    rw (add-one i, take-suc (drop start w) i 0 (omega arith), all-append, getD-drop start w i 0, and-true) refl
+module _ (test : ℕ → Bool) (w : List ℕ) (start : ℕ) where
+  -- one word more
+  pub word-more : (i : ℕ) → start + i < length w
+      → all test (take (i + 1) (drop start w)) ≡ (all test (take i (drop start w)) && test (getD w (start + i) 0))
+  word-more i h =
+      let long = length-drop start w in
+      rw (add-one i, take-suc (drop start w) i 0 (omega arith), all-append, getD-drop start w i 0, and-true) refl
+
+  -- where all pass, each does
+  pub word-passes : (n j : ℕ) → start + n ≤ length w → all test (take n (drop start w)) ≡ true → j < n → test (getD w (start + j) 0) ≡ true
+  word-passes n j inside all-pass h =
+      let words = take n (drop start w) in
+      let long = length-drop start w in
+      let size = length-take-le n (drop start w) (omega arith) in
+      rw (getD-take n (drop start w) j 0 h, getD-drop start w j 0) at (from-all test words all-pass (at-place words 0 j (omega arith)))
 
 -- the row that ends where row i starts
 abbrev rowBack : List ℕ → ℕ → ℕ → Row
@@ -48,15 +57,6 @@ row-more w p i later h =
     rw (rows-at w p i 0 (omega arith), ascends-snoc rowBefore (rowsIn i (drop p w)) (rowAt w p i), last-row w p i (rowAt w p i) later (omega arith)) refl
 
 -- ---- rows of terms as numbers
-
--- a word among terms is one
-pub word-term : (w : List ℕ) (start n j : ℕ) → start + n ≤ length w → all isTerm (take n (drop start w)) ≡ true → j < n → getD w (start + j) 0 ≤ mostTerm
-word-term w start n j inside terms h =
-    let words = take n (drop start w) in
-    let long = length-drop start w in
-    let size = length-take-le n (drop start w) (omega arith) in
-    let there = from-all isTerm words terms (at-place words 0 j (omega arith)) in
-    leb-true _ _ (rw (getD-take n (drop start w) j 0 h, getD-drop start w j 0) at there)
 
 module _ (s o t p : ℕ) (small : o ≤ mostTerm) (small-too : p ≤ mostTerm) where
   pub number-before : rowNumber s o < rowNumber t p → rowBefore (s, o) (t, p) ≡ true

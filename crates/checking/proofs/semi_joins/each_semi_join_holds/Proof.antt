@@ -2,7 +2,7 @@
 use Prim.Native.Nat.{_+_, _*_, _-_, _<_, _≤_}
 use native.Mathlib.Nat.{le-refl}
 use native.Mathlib.Omega.{arith}
-use mathlib.Core.Path.{sym}
+use mathlib.Core.Path.{sym, _∙_}
 use mathlib.Core.Logic.{⊎-elim, inl, inr}
 use borrow.Author.Needs.{needs}
 use Rattle.model.specs.Tables.{kindCount}
@@ -10,7 +10,7 @@ use Rattle.tables.specs.SiteWords.{semiJoinPlace}
 use Rattle.tables.proofs.Images.{few-predicates}
 use Rattle.tables.proofs.Entries.{place-below}
 use Rattle.checking.proofs.Joined.{Joined, joined-none, joined-more, one-fails, joined-all}
-use Rattle.checking.proofs.EmptyPairs.{pair-joined}
+use Rattle.checking.proofs.EmptyPairs.{empty-pair, pair-joined}
 use Rattle.checking.proofs.Turns.{Turn, first-turn, first-place, last-turn, last-kind, Onward, next-partner, next-own}
 use Rattle.checking.proofs.semi_joins.each_semi_join_holds.Statement.{statement}
 use Rattle.checking.proofs.semi_joins.each_semi_join_holds.Tie as tie
@@ -36,7 +36,7 @@ step j =
     let turn-of = j .before .before .loop-test .taken in
     ⊎-elim
     (λ w.
-    let (first, empty) = j .before .is-empty-pair .ensures (w .0 .taken) in
+    let (first, empty) = empty-pair (s .args .ranges .now) (s .pre .0 .0) (s .pre .1 .2) _ _ turn-of (turn .partner turn-of) _ (sym (j .before .is-empty-pair .ensures) ∙ w .0 .taken) in
     rw (w .1, w .2)
     (omega arith, last-kind turn turn-of, pair-joined _ _ _ (s .pre .0 .0) (s .pre .0 .4) _ _ turn-of (turn .partner turn-of) empty (rw first at (l .loop .inv .1))))
     (λ w.

@@ -1,16 +1,15 @@
 -- The columns of the three kinds are apart, and the six words of their entries are 0.
 use Prim.Native.Nat.{_+_, _*_, _<_, _≤_}
 use native.Mathlib.Omega.{arith}
-use mathlib.Core.Path.{sym, _∙_}
-use mathlib.Core.Bool.{false≢true}
+use mathlib.Core.Path.{refl, sym, _∙_}
 use lib.ListN.{length}
 use borrow.Author.Needs.{needs}
-use borrow.Author.Tests.{not-false}
+use borrow.Author.Tests.{eq-eqb, ne-eqb, not-true, not-false}
 use Rattle.model.specs.Site.{mostPredicates}
 use Rattle.tables.specs.SiteWords.{semiJoinPlace}
 use Rattle.tables.proofs.Images.{few-predicates, few-semi-joins, mostSemiJoins, entries-inside}
 use Rattle.tables.proofs.Entries.{place-below}
-use Rattle.checking.proofs.EmptyPairs.{empty-pair}
+use Rattle.checking.specs.Joins.{emptyPair}
 use Rattle.checking.proofs.semi_joins.is_empty_pair.Statement.{statement}
 use Rattle.checking.proofs.semi_joins.is_empty_pair.Tie as tie
 
@@ -25,7 +24,8 @@ inside : (s : tie.Start) → 3 + 3 * s .args .count + 2 * semiJoinPlace (s .args
 inside s = omega (arith, place-below (s .args .p) (s .args .q) 2 (s .pre .1) (s .pre .2) (omega arith), entries-inside (s .pre .0))
 
 returns : tie.Need-returns
-returns c = λ e. absurd (false≢true e)
+unfolding emptyPair
+returns c = rw (ne-eqb _ 0 (c .if1 .taken)) refl
 
 mul-a : tie.Need-mul-a
 mul-a c = omega (arith, small (c .before .before))
@@ -37,7 +37,10 @@ columns-apart-requires : tie.Need-columns-apart-requires
 columns-apart-requires c κs = let h = small (c .before .before) in (omega arith, omega arith)
 
 returns-2 : tie.Need-returns-2
-returns-2 c = λ e. absurd (false≢true e)
+unfolding emptyPair
+returns-2 c =
+    let one = c .before .before in
+    rw (eq-eqb _ 0 (one .if1 .left), sym (c .before .columns-apart .ensures) ∙ not-true _ (c .if2 .taken)) refl
 
 add-columns-apart : tie.Need-add-columns-apart
 add-columns-apart c = omega (arith, small (c .before .before .before .before))
@@ -46,7 +49,16 @@ columns-apart-requires-2 : tie.Need-columns-apart-requires-2
 columns-apart-requires-2 c κs = let h = small (c .before .before .before .before) in (omega arith, omega arith)
 
 returns-3 : tie.Need-returns-3
-returns-3 c = λ e. absurd (false≢true e)
+unfolding emptyPair
+returns-3 c =
+    let two = c .before .before in
+    let one = two .before .before in
+    rw (
+      eq-eqb _ 0 (one .if1 .left),
+      sym (two .before .columns-apart .ensures) ∙ not-false _ (two .if2 .left),
+      sym (c .before .columns-apart2 .ensures) ∙ not-true _ (c .if3 .taken),
+    )
+    refl
 
 add-columns-apart-2 : tie.Need-add-columns-apart-2
 add-columns-apart-2 c = omega (arith, small (c .before .before .before .before .before .before))
@@ -55,7 +67,18 @@ columns-apart-requires-3 : tie.Need-columns-apart-requires-3
 columns-apart-requires-3 c κs = let h = small (c .before .before .before .before .before .before) in (omega arith, omega arith)
 
 returns-4 : tie.Need-returns-4
-returns-4 c = λ e. absurd (false≢true e)
+unfolding emptyPair
+returns-4 c =
+    let three = c .before .before in
+    let two = three .before .before in
+    let one = two .before .before in
+    rw (
+      eq-eqb _ 0 (one .if1 .left),
+      sym (two .before .columns-apart .ensures) ∙ not-false _ (two .if2 .left),
+      sym (three .before .columns-apart2 .ensures) ∙ not-false _ (three .if3 .left),
+      sym (c .before .columns-apart3 .ensures) ∙ not-true _ (c .if4 .taken),
+    )
+    refl
 
 mul-are-zero : tie.Need-mul-are-zero
 mul-are-zero c = omega (arith, small (c .before .before .before .before .before .before .before .before))
@@ -85,19 +108,20 @@ are-zero-requires : tie.Need-are-zero-requires
 are-zero-requires c κs = omega (arith, inside (c .before .before .before .before .before .before .before .before))
 
 returns-5 : tie.Need-returns-5
-returns-5 c = λ e.
+unfolding emptyPair
+returns-5 c =
     let four = c .before in
     let three = four .before .before in
     let two = three .before .before in
     let one = two .before .before in
-    let s = one .before .before in (
-      one .if1 .left,
-      empty-pair (s .args .ranges .now) (s .pre .0) (s .pre .3) (s .args .p) (s .args .q) (s .pre .1) (s .pre .2)
-          (sym (two .before .columns-apart .ensures) ∙ not-false _ (two .if2 .left))
-          (sym (three .before .columns-apart2 .ensures) ∙ not-false _ (three .if3 .left))
-          (sym (four .before .columns-apart3 .ensures) ∙ not-false _ (four .if4 .left))
-          (c .are-zero .ensures e),
+    c .are-zero .ensures
+    ∙ rw (
+      eq-eqb _ 0 (one .if1 .left),
+      sym (two .before .columns-apart .ensures) ∙ not-false _ (two .if2 .left),
+      sym (three .before .columns-apart2 .ensures) ∙ not-false _ (three .if3 .left),
+      sym (four .before .columns-apart3 .ensures) ∙ not-false _ (four .if4 .left),
     )
+    refl
 
 pub is-empty-pair-spec : {M : Type 1} → statement M
 is-empty-pair-spec =

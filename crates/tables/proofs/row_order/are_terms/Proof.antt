@@ -9,7 +9,7 @@ use borrow.Author.Needs.{needs}
 use borrow.Author.Tests.{le-leb, lt-leb}
 use Rattle.model.specs.Lists.{all}
 use Rattle.model.specs.Numbers.{isTerm}
-use Rattle.tables.proofs.Proper.{term-more}
+use Rattle.tables.proofs.Proper.{word-more}
 use Rattle.tables.proofs.row_order.are_terms.Statement.{statement}
 use Rattle.tables.proofs.row_order.are_terms.Tie as tie
 
@@ -41,7 +41,7 @@ loop-again : tie.Need-loop-again Inv-loop μ-loop
 loop-again c =
     let l = c .before .before .before in
     let a = l .before .args in
-    let more = term-more (a .w .now) (a .start) (l .loop .i) (omega arith) in (
+    let more = word-more isTerm (a .w .now) (a .start) (l .loop .i) (omega arith) in (
       omega arith,
       ⊎-elim
           (λ w. rw (w .1, more, lt-leb _ _ (w .0 .taken), and-false) refl)

@@ -6,12 +6,13 @@ use mathlib.Core.Bool.{and-true, and-false}
 use mathlib.Core.Logic.{⊎-elim}
 use lib.ListN.{getD, drop}
 use borrow.Author.Needs.{needs}
+use borrow.Author.Tests.{leb-true}
 use Rattle.model.specs.Lists.{ascends}
-use Rattle.model.specs.Numbers.{mostTerm}
+use Rattle.model.specs.Numbers.{mostTerm, isTerm}
 use Rattle.model.specs.Site.{rowBefore}
 use Rattle.model.specs.Store.{rowsIn}
 use Rattle.tables.proofs.Rows.{rows-at}
-use Rattle.tables.proofs.Proper.{row-more, word-term, number-before, number-not-before}
+use Rattle.tables.proofs.Proper.{row-more, word-passes, number-before, number-not-before}
 use Rattle.tables.proofs.row_order.rows_ascend.Statement.{statement}
 use Rattle.tables.proofs.row_order.rows_ascend.Tie as tie
 
@@ -26,7 +27,7 @@ term-at : (s : tie.Start Inv-loop μ-loop) (x : ℕ) → s .args .start ≤ x �
 term-at s x low high =
     let a = s .args in
     let place : a .start + (x - a .start) ≡ x = omega arith in
-    rw place at (word-term (a .w .now) (a .start) (2 * a .n) (x - a .start) (s .pre .1) (s .pre .2) (omega arith))
+    leb-true _ _ (rw place at (word-passes isTerm (a .w .now) (a .start) (2 * a .n) (x - a .start) (s .pre .1) (s .pre .2) (omega arith)))
 
 loop-holds : tie.Need-loop-holds Inv-loop μ-loop
 loop-holds c =
