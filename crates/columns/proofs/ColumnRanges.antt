@@ -5,7 +5,7 @@ use native.Mathlib.Nat.{le-of-suc-le-suc, lt-of-not-le}
 use native.Mathlib.Numerals.{add-one}
 use mathlib.Core.Path.{_≡_, refl, sym, ap, _∙_}
 use mathlib.Core.Logic.{_⊎_, inl, inr, ⊎-elim}
-use mathlib.Core.Bool.{Bool, true, false, false≢true, _||_, or-comm, or-false}
+use mathlib.Core.Bool.{Bool, true, false, false≢true, _||_, or-comm, or-false, not}
 use mathlib.Core.List.{List}
 use lib.ListN.{length, getD, set, length-append, length-set}
 use lib.Seq.{getD-set-same, getD-set-other}
@@ -15,13 +15,13 @@ use borrow.Author.Tests.{ltb-true, ltb-false, leb-true, le-leb, eqb-true, eqb-fa
 use Rattle.model.specs.Lists.{below}
 use Rattle.model.specs.Tables.{semiJoin}
 use Rattle.model.proofs.Booleans.{not-both, to-false, or-cases, or-left, or-right}
-use Rattle.model.proofs.Membership.{from-all, into-all, any-append}
+use Rattle.model.proofs.Membership.{from-all, into-all, any-append, into-any}
 use Rattle.model.proofs.Below.{from-below, into-below}
 use Rattle.rows.specs.Search.{wordAt, Ascending, hasWord}
 use Rattle.rows.proofs.WordSearch.{word-found, before-first, behind-last}
 use Rattle.tables.proofs.Rows.{rows-at}
 use Rattle.tables.proofs.Partners.{hasPartner, partner-found, leftOf, row-left, row-not-left}
-use Rattle.columns.specs.Ranges.{isGapless, RangeOf, hasValue, ColumnRange, AllMeasured, apart}
+use Rattle.columns.specs.Ranges.{isGapless, RangeOf, hasValue, ColumnRange, AllMeasured, apart, isReached}
 use Rattle.columns.proofs.Partnered.{partner-of-value}
 
 -- ---- words without gaps
@@ -199,6 +199,10 @@ module _ (words ranges : List ℕ) (a b p m own q n other : ℕ) (own-column : o
 -- ranges are apart in either order
 pub apart-turned : (ranges : List ℕ) (a b : ℕ) → apart ranges a b ≡ apart ranges b a
 apart-turned ranges a b = or-comm (ltb (getD ranges (a + 1) 0) (getD ranges b 0)) (ltb (getD ranges (b + 1) 0) (getD ranges a 0))
+
+-- one table's subjects are enough
+pub reached-by : (ranges : List ℕ) (k column p : ℕ) → p < k → apart ranges (6 * p) column ≡ false → isReached ranges k column ≡ true
+reached-by ranges k column p h e = into-any _ (into-below k h) (ap not e)
 
 -- ---- where the ranges stand
 

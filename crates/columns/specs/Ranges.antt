@@ -1,7 +1,7 @@
 -- The range of a column's values, by which rows have no partners or all have, without a search.
 use Prim.Native.Nat.{ℕ, _+_, _-_, _*_, _≤_, _<_}
 use mathlib.Core.Path.{_≡_}
-use mathlib.Core.Bool.{Bool, true, _||_}
+use mathlib.Core.Bool.{Bool, true, _||_, not}
 use mathlib.Core.List.{List}
 use lib.ListN.{getD, drop}
 use lib.Dec.{eqb, ltb, leb}
@@ -39,3 +39,7 @@ AllMeasured words ranges k =
 -- no value is in both of the ranges at two places
 abbrev pub apart : List ℕ → ℕ → ℕ → Bool
 apart ranges a b = ltb (getD ranges (a + 1) 0) (getD ranges b 0) || ltb (getD ranges (b + 1) 0) (getD ranges a 0)
+
+-- the subjects of some of the first k tables are not apart from a column
+abbrev pub isReached : List ℕ → ℕ → ℕ → Bool
+isReached ranges k column = any (λ p. not (apart ranges (6 * p) column)) (below k)

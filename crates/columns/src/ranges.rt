@@ -1,11 +1,10 @@
 ghost use mathlib.Core.Path.{_≡_};
-ghost use Prim.Native.Nat.{ℕ, _<_, _≤_, _+_, _*_};
-ghost use mathlib.Core.Bool.{true, false};
+ghost use Prim.Native.Nat.{_<_, _≤_, _+_, _*_};
 ghost use lib.ListN.{length, set};
 ghost use Rattle.model.specs.Site.{mostPredicates};
 ghost use Rattle.tables.specs.SiteWords.{ImageOf};
 ghost use Rattle.rows.specs.Search.{Ascending, hasWord};
-ghost use Rattle.columns.specs.Ranges.{isGapless, RangeOf, hasValue, AllMeasured, apart};
+ghost use Rattle.columns.specs.Ranges.{isGapless, RangeOf, hasValue, AllMeasured, apart, isReached};
 
 // The values of a column: the lowest, the highest, and 1 where each number between them is a value too.
 pub struct Range {
@@ -124,7 +123,7 @@ pub fn columns_apart(ranges: &[u32; 96], a: usize, b: usize) -> bool
 // Whether some table's subjects are not apart from a column.
 pub fn is_reached(ranges: &[u32; 96], count: usize, column: usize) -> bool
     requires { ⌜ (count ≤ mostPredicates) × (column + 3 ≤ 96) ⌝ }
-    ensures { λ r. ⌜ ((p : ℕ) → p < count → apart (now (ranges .entry)) (6 * p) column ≡ false → r ≡ true) ⌝ }
+    ensures { λ r. ⌜ r ≡ isReached (now (ranges .entry)) count column ⌝ }
 {
     for p in 0..count {
         if !columns_apart(ranges, 6 * p, column) {

@@ -8,7 +8,7 @@ use Rattle.tables.specs.SiteWords.{siteIn, ImageOf}
 use Rattle.tables.proofs.Images.{few-predicates, entries-inside, table-in}
 use Rattle.columns.specs.Searching.{AllSorted}
 use Rattle.columns.specs.Ranges.{AllMeasured}
-use Rattle.columns.proofs.ColumnRanges.{range-whole, measured-again}
+use Rattle.columns.proofs.ColumnRanges.{range-whole, measured-again, reached-by}
 use Rattle.columns.proofs.Partnered.{same-answers}
 use Rattle.columns.proofs.SearchableTables.{behind-first, part-fits, all-searchable, one-more-sorted}
 use Rattle.columns.proofs.objects.copy_objects.Statement.{statement}
@@ -151,7 +151,7 @@ loop-again c =
       rw first
           (one-more-sorted (image turn) (turn .before .loop .objects) copy _ i (turn .loop-test .taken) room
           (omega (arith, part turn, c .before .objects .given .0, put .before .copy-reached-arg .given .2)) ranges whole (inv .3)
-          (λ p m e. put .copy-reached .ensures .0 (reached p m e))),
+          (λ p m e. put .copy-reached .ensures .0 (reached ∙ reached-by ranges (s .args .count) (6 * i + 3) p m e))),
       measured-again ranges i whole w (s .args .count) (omega (arith, few turn, inv .1)) (inv .4)
           (range-whole _ whole copy _
           (λ e.

@@ -1,11 +1,14 @@
 -- The tables one by one. The invariant: the subjects of each table passed are apart from the column.
 use Prim.Native.Nat.{ℕ, _*_, _-_, _<_}
 use native.Mathlib.Omega.{arith}
-use mathlib.Core.Path.{_≡_, refl, sym, _∙_}
-use mathlib.Core.Bool.{true}
+use mathlib.Core.Path.{_≡_, sym, ap, _∙_}
+use mathlib.Core.Bool.{true, not}
 use borrow.Author.Count.{below-more}
-use borrow.Author.Tests.{not-false}
-use Rattle.model.proofs.Booleans.{not-both}
+use borrow.Author.Tests.{not-true, not-false}
+use Rattle.model.specs.Lists.{below}
+use Rattle.model.proofs.Booleans.{not-both, to-false}
+use Rattle.model.proofs.Membership.{into-any, from-any}
+use Rattle.model.proofs.Below.{into-below, from-below}
 use Rattle.columns.specs.Ranges.{apart}
 use Rattle.columns.proofs.ranges.is_reached.Statement.{statement}
 use Rattle.columns.proofs.ranges.is_reached.Tie as tie
@@ -26,7 +29,9 @@ columns-apart-requires : tie.Need-columns-apart-requires Inv-loop μ-loop
 columns-apart-requires c κs = (omega (arith, c .before .before .pre .0), c .before .before .pre .1)
 
 returns : tie.Need-returns Inv-loop μ-loop
-returns c = λ p h e. refl
+returns c =
+    let t = c .before .before in
+    sym (into-any _ (into-below _ (t .loop-test .taken)) (ap not (sym (c .before .columns-apart .ensures)) ∙ c .if1 .taken))
 
 add-p : tie.Need-add-p Inv-loop μ-loop
 add-p c = omega arith
@@ -41,7 +46,15 @@ loop-again c =
     below-more (λ j. apart (l .before .args .ranges .now) (6 * j) (l .before .args .column) ≡ true) (l .loop .p) (l .loop .inv) apart-here
 
 returns-2 : tie.Need-returns-2 Inv-loop μ-loop
-returns-2 c = λ p h e. not-both (c .before .loop .inv p (omega arith)) e
+returns-2 c =
+    let l = c .before in
+    let count = l .before .args .count in
+    sym
+    (to-false _
+    (λ e.
+    let (p, among, apart-not) = from-any _ (below count) e in
+    let passed = from-below count among in
+    not-both (l .loop .inv p (omega arith)) (not-true _ apart-not)))
 
 pub is-reached-spec : {M : Type 1} → statement M
 is-reached-spec =
