@@ -201,28 +201,35 @@ def bounds(what, ratios):
     return '%s: from %.2f to %.2f, the middle one %.2f.' % (what, ratios[0], ratios[-1], ratios[len(ratios) // 2])
 
 
-def best_ratios(measured, is_scattered):
-    return [line.ratio(BEST) for line in measured if line.call != 'build' and line.site.startswith('scattered') == is_scattered]
+def has_gaps(line):
+    """Of a further site: one whose terms are not numbered in a row."""
+    return line.site.startswith(('named', 'scattered'))
+
+
+def best_bounds(what, measured):
+    return bounds(what, [line.ratio(BEST) for line in measured if line.call != 'build'])
 
 
 def results(folder):
-    measured = [Line(text) for text in lines(folder, 'times.txt')]
+    everything = [Line(text) for text in lines(folder, 'times.txt')]
+    measured, further = [line for line in everything if not has_gaps(line)], [line for line in everything if has_gaps(line)]
     sites = inputs(folder)
     small = dict(line.split() for line in lines(folder, 'stack.txt')), dict(line.split() for line in lines(folder, 'instructions.txt'))
     code = lines(folder, 'size.txt')[-1].split()
-    worst = max(line.spread(engine) for line in measured for engine in range(6))
+    worst = max(line.spread(engine) for line in everything for engine in range(6))
     text = ['# What a closing check costs', '', 'Written by `bench/run`; medians of 21 interleaved repeats in one process, on %s. Compare ratios of' % platform.machine(),
             'one run, not times of two. The widest distance between quartiles was %.0f %% of a median.' % (100 * worst), '',
             'Plain C is the same algorithm; best C the fastest that we could write for the same calls; before is the algorithm until question 10 and the join',
             'were made by search, in plain C, with which the engine of then was level.', '',
             bounds('Engine over plain C', [line.ratio(PLAIN) for line in measured]), '',
-            bounds('Engine over best C, plan and run', best_ratios(measured, False)), '',
-            bounds('The same on the scattered shops, whose terms are numbered with gaps', best_ratios(measured, True)), '',
+            best_bounds('Engine over best C, plan and run', measured), '',
             bounds('Run over SQLite with quick_check', [line.ratio(CHECKED) for line in measured if line.call == 'run']), '',
             '![time of a run by rows of the site](plot.svg)', '', '## Build', '']
     text += build_table(measured, sites) + ['', '## Plan', ''] + plan_table(measured) + ['', '## Run', ''] + run_table(measured, sites)
     text += ['', '## Reduced tables', ''] + reduced_table(measured) + ['', '## How cost grows with rows', '', 'The exponent of time in rows, over shops of 16 to 1,024 rows.', '']
-    text += growth_table(measured) + ['', '## Sizes', '']
+    text += growth_table(measured) + ['', '## Columns with gaps', '', 'Further sites: the same shops with their terms numbered by first appearance, as `tools/site_text.py`',
+                                      'numbers names, or scattered over all numbers. ' + best_bounds('Engine over best C, plan and run', further), '']
+    text += plan_table(further) + [''] + run_table(further, sites) + ['', '## Sizes', '']
     text += table(('what', 'build', 'plan', 'run'), [('stack of a call, bytes',) + tuple('{:,}'.format(int(small[0][c])) for c in ('build', 'plan', 'run')),
                                                      ('instructions on the worked shop',) + tuple('{:,}'.format(int(small[1][c])) for c in ('build', 'plan', 'run'))])
     text += ['', 'Code of the archive: {:,} bytes.'.format(int(code[0])), '', '## Agreement', '', '. '.join(lines(folder, 'agree.txt')) + '.', '']

@@ -42,16 +42,25 @@ enum { COVERS = 1, IN = 2, STATE = 3, BATTERY = 4, CLOSED = 40, OPEN = 41, AJAR 
 
 enum { FIRST_SENSOR = 1000, FIRST_DOOR = 3000, FIRST_ZONE = 5000 };
 
-/* Another number for each term: the numbers of a shop are no longer in a row, nor in the same order. */
-static uint32_t scattered(uint32_t t) {
-    return (uint32_t)((uint64_t)t * 40503 % 65521);
-}
+/* Other numbers for the terms of a shop: none; by first appearance, as tools/site_text.py numbers names, so that sensors and doors take
+ * turns; or with gaps everywhere, in another order. */
+typedef uint32_t renaming(uint32_t t);
 
 static uint32_t as_numbered(uint32_t t) {
     return t;
 }
 
-typedef uint32_t renaming(uint32_t t);
+static uint32_t number_of[65536], next_number;
+
+static uint32_t by_appearance(uint32_t t) {
+    if (number_of[t] == 0)
+        number_of[t] = next_number++;
+    return number_of[t];
+}
+
+static uint32_t scattered(uint32_t t) {
+    return (uint32_t)((uint64_t)t * 40503 % 65521);
+}
 
 /* The shapes of the S2RDF paper over a shop: star, path, snowflake and a cross join; none, few and many rows. */
 static void add_shop_checks(struct workload *w, renaming *of) {
@@ -119,6 +128,8 @@ static void make_shop(struct workload *w, const char *name, uint32_t rows, renam
     const uint32_t count[4] = {sensors, sensors, doors, batteries};
     name_file(&w->site, name, rows);
     w->rows = rows;
+    memset(number_of, 0, sizeof number_of);
+    next_number = BATTERY + 1;
     put_number(&w->site, 4);
     for (uint32_t p = 0; p < 4; p++) {
         put_number(&w->site, COVERS + p);
@@ -127,7 +138,8 @@ static void make_shop(struct workload *w, const char *name, uint32_t rows, renam
     for (uint32_t p = 0; p < 4; p++) {
         for (uint32_t r = 0; r < count[p]; r++) {
             const uint32_t object[4] = {FIRST_DOOR + r * doors / sensors, FIRST_ZONE + r % zones, r % 8 == 5 ? OPEN : CLOSED, r % 8 == 3 ? LOW : GOOD};
-            row[r] = (struct row){of(p == 2 ? FIRST_DOOR + r : FIRST_SENSOR + r), of(object[p])};
+            row[r].subject = of(p == 2 ? FIRST_DOOR + r : FIRST_SENSOR + r);
+            row[r].object = of(object[p]);
         }
         qsort(row, count[p], sizeof *row, compare_rows);
         for (uint32_t r = 0; r < count[p]; r++) {
@@ -192,7 +204,11 @@ void make_workload(size_t k, struct workload *w) {
         break;
     case 8:
     case 9:
-        make_shop(w, "scattered shop of %u rows", k == 8 ? 256 : 1024, scattered);
+        make_shop(w, "named shop of %u rows", k == 8 ? 256 : 1024, by_appearance);
+        break;
+    case 10:
+    case 11:
+        make_shop(w, "scattered shop of %u rows", k == 10 ? 256 : 1024, scattered);
         break;
     default:
         make_shop(w, "shop of %u rows", 4u << (2 * k), as_numbered);

@@ -5,7 +5,7 @@
 #include <stddef.h>
 #include <stdint.h>
 
-enum { SITES = 10, CHECKS = 12, MOST_SITE_BYTES = 8192, MOST_CHECK_BYTES = 128 };
+enum { SITES = 12, CHECKS = 12, MOST_SITE_BYTES = 8192, MOST_CHECK_BYTES = 128 };
 
 struct bytes {
     char name[40];
@@ -20,8 +20,8 @@ struct workload {
     struct bytes check[CHECKS];
 };
 
-/* The k-th of SITES: the worked shop, shops of 16, 64, 256 and 1,024 rows, the worst sites for semi-joins, and two shops whose terms are
- * numbered with gaps. */
+/* The k-th of SITES: the worked shop, shops of 16, 64, 256 and 1,024 rows, the worst sites for semi-joins, and shops whose
+ * columns have gaps: their terms numbered by first appearance, or scattered. */
 void make_workload(size_t k, struct workload *workload);
 
 #endif
