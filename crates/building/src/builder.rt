@@ -10,14 +10,14 @@ use crate::site_reader::IMAGE_WORDS;
 use crate::site_reader::SiteRead;
 use crate::site_reader::read_site;
 use model::answer::Answer;
+use reducing::semi_join_count::count_semi_join;
+use reducing::semi_join_write::write_semi_join;
 use tables::copying::copy_words;
 use tables::kinds::KINDS;
 use tables::kinds::is_stored;
 use tables::limits::MOST_THRESHOLD;
 use tables::operands::operands_at;
 use tables::operands::rows_start;
-use tables::semi_join_count::count_semi_join;
-use tables::semi_join_write::write_semi_join;
 
 // Where the stored tables' rows begin.
 fn stored_start(image: &[u32], count: usize) -> usize

@@ -11,7 +11,7 @@ use Rattle.model.specs.Site.{Row}
 use Rattle.model.specs.Tables.{isStored}
 use Rattle.model.specs.Store.{Reduced, isKept, kept, tableWords}
 use Rattle.model.proofs.Booleans.{and-cases, and-make, not-both, to-false}
-use Rattle.columns.proofs.Comparing.{as-many}
+use Rattle.partners.proofs.ComparedRows.{as-many}
 use Rattle.checking.specs.Joins.{storedHolds, joinHolds}
 use Rattle.checking.specs.declared.entries.Place.{Place}
 use Rattle.checking.specs.declared.entries.Place.the-variants.{At, Wrong}

@@ -15,10 +15,10 @@ ghost use Rattle.checking.specs.Joins.{storedHolds, joinHolds, joinsHold
 ghost use Rattle.checking.specs.declared.entries.Place.the-variants.{At, Wrong};
 use crate::entries::Place;
 use columns::objects::copy_objects;
-use columns::partners::compare_partnered;
-use columns::partners::count_partnered;
 use columns::ranges::columns_apart;
 use columns::ranges::measure_columns;
+use partners::comparing::compare_partnered;
+use partners::counting::count_partnered;
 use tables::kinds::KINDS;
 use tables::kinds::is_stored;
 use tables::operands::Operands;

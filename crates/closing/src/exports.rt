@@ -5,7 +5,7 @@ use crate::calls::build;
 use crate::calls::plan;
 use crate::calls::run;
 use crate::report::report;
-use planning::steps::no_plan;
+use plans::steps::no_plan;
 
 // `build` for C: returns 0, or the refusal's number and then neither the store nor the answer is altered.
 #[no_mangle]

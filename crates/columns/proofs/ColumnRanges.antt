@@ -17,8 +17,8 @@ use Rattle.model.specs.Tables.{semiJoin}
 use Rattle.model.proofs.Booleans.{not-both, to-false, or-cases, or-left, or-right}
 use Rattle.model.proofs.Membership.{from-all, into-all, any-append, into-any}
 use Rattle.model.proofs.Below.{from-below, into-below}
-use Rattle.rows.specs.Search.{wordAt, Ascending, hasWord}
-use Rattle.rows.proofs.WordSearch.{word-found, before-first, behind-last}
+use Rattle.searching.specs.Search.{wordAt, Ascending, hasWord}
+use Rattle.searching.proofs.WordSearch.{word-found, before-first, behind-last}
 use Rattle.tables.proofs.Rows.{rows-at}
 use Rattle.tables.proofs.Partners.{hasPartner, partner-found, leftOf, row-left, row-not-left}
 use Rattle.columns.specs.Ranges.{isGapless, RangeOf, hasValue, ColumnRange, AllMeasured, apart, isReached}

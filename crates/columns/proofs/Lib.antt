@@ -1,5 +1,4 @@
 -- The laws the proofs of this crate rest on.
-pub mod Comparing
 pub mod Partnered
 pub mod ColumnRanges
 pub mod SortedObjects

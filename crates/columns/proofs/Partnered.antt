@@ -16,7 +16,7 @@ use Rattle.model.proofs.Below.{below-last}
 use Rattle.model.proofs.Membership.{keep-same}
 use Rattle.model.proofs.PlanFile.{eqb-comm}
 use Rattle.model.proofs.Counting.{num, count, count-append}
-use Rattle.rows.specs.Search.{wordAt, hasWord}
+use Rattle.searching.specs.Search.{wordAt, hasWord}
 use Rattle.rows.proofs.HeapSort.{keep-count}
 use Rattle.tables.specs.Columns.{columnOf, kindOfColumns}
 use Rattle.tables.proofs.Rows.{rowAt, rows-at}

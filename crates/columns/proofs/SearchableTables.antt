@@ -22,7 +22,7 @@ use Rattle.model.proofs.Below.{from-below, below-last, length-countUp, getD-cou
 use Rattle.model.proofs.Order.{rows}
 use Rattle.model.proofs.Sorting.{ascending-sorted}
 use Rattle.model.proofs.Partition.{proper}
-use Rattle.rows.specs.Search.{wordAt, Ascending}
+use Rattle.searching.specs.Search.{wordAt, Ascending}
 use Rattle.tables.specs.SiteWords.{siteIn, ImageOf}
 use Rattle.tables.proofs.Rows.{rowAt, rows-at}
 use Rattle.tables.proofs.Images.{table-in}

@@ -20,7 +20,7 @@ use Rattle.model.proofs.Order.{IsOrder, numbers}
 use Rattle.model.proofs.Counting.{count, count-map}
 use Rattle.model.proofs.Sorting.{Sorted, count-sort, sorted-sort}
 use Rattle.rows.specs.Rows.{rowIn, rowsOf, sortedFront}
-use Rattle.rows.specs.Search.{wordAt, Ascending}
+use Rattle.searching.specs.Search.{wordAt, Ascending}
 use Rattle.rows.proofs.HeapSort.{keep-count}
 use Rattle.tables.proofs.Rows.{rows-at}
 use Rattle.columns.specs.Searching.{passing, CopyOf}

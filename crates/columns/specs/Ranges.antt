@@ -9,7 +9,7 @@ use Rattle.model.specs.Lists.{any, all, below}
 use Rattle.model.specs.Tables.{at}
 use Rattle.model.specs.Store.{rowsIn}
 use Rattle.tables.specs.Columns.{columnOf}
-use Rattle.rows.specs.Search.{wordAt}
+use Rattle.searching.specs.Search.{wordAt}
 
 -- each of n words is at most one above the word before it
 unfoldable pub isGapless : List ℕ → ℕ → ℕ → ℕ → Bool

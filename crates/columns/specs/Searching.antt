@@ -9,7 +9,7 @@ use Rattle.model.specs.Lists.{keep, below}
 use Rattle.model.specs.Site.{Row}
 use Rattle.model.specs.Tables.{Column, at, object}
 use Rattle.model.specs.Store.{rowsStart, rowsIn}
-use Rattle.rows.specs.Search.{wordAt, Ascending}
+use Rattle.searching.specs.Search.{wordAt, Ascending}
 use Rattle.columns.specs.Ranges.{apart}
 
 -- how many of n words pass a test

@@ -1,4 +1,3 @@
-// The columns of a site's tables in words: their ranges, their objects in ascending order, and which values have partners.
+// The columns of a site's tables in words: their ranges, and their objects in ascending order.
 pub mod objects;
-pub mod partners;
 pub mod ranges;

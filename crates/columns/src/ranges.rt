@@ -3,7 +3,7 @@ ghost use Prim.Native.Nat.{_<_, _≤_, _+_, _*_};
 ghost use lib.ListN.{length, set};
 ghost use Rattle.model.specs.Site.{mostPredicates};
 ghost use Rattle.tables.specs.SiteWords.{ImageOf};
-ghost use Rattle.rows.specs.Search.{Ascending, hasWord};
+ghost use Rattle.searching.specs.Search.{Ascending, hasWord};
 ghost use Rattle.columns.specs.Ranges.{isGapless, RangeOf, hasValue, AllMeasured, apart, isReached};
 
 // The values of a column: the lowest, the highest, and 1 where each number between them is a value too.

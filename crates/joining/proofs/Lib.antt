@@ -2,8 +2,5 @@
 pub mod PartialCells
 pub mod JoinFrom
 pub mod PlanJoin
-pub mod StepsHold
 pub mod FourNumbers
-pub mod StepParts
-pub mod PartSolutions
 pub mod JoinWords

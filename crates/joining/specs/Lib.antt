@@ -3,4 +3,3 @@ pub mod Cells
 pub mod Steps
 pub mod Visits
 pub mod Results
-pub mod StepParts

@@ -2,5 +2,4 @@
 pub mod cells;
 pub mod join_count;
 pub mod join_write;
-pub mod parts;
 pub mod visited;

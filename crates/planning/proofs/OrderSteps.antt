@@ -18,9 +18,9 @@ use Rattle.model.specs.declared.plan.Plan.{Plan as PlanNumbers}
 use Rattle.model.proofs.Membership.{keep-all, any-append, keep-same, keep-keep}
 use Rattle.model.proofs.Below.{from-below}
 use Rattle.model.proofs.Ordering.{from-ordered, ordered}
-use Rattle.planning.specs.Choices.{TablesChosen}
+use Rattle.plans.specs.Choices.{TablesChosen}
 use Rattle.planning.specs.Flags.{pickBy}
-use Rattle.planning.proofs.PlanReading.{step-written}
+use Rattle.plans.proofs.PlanReading.{step-written}
 use Rattle.planning.proofs.Picking.{picked}
 
 -- ---- the tables

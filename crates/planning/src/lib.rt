@@ -1,6 +1,3 @@
-// The planner, and the reader of a given plan: questions 18 to 20.
-pub mod choosing;
+// The planner: the table of each triple pattern, and their order.
 pub mod ordering;
-pub mod plan_reader;
 pub mod planner;
-pub mod steps;

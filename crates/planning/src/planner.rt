@@ -8,17 +8,17 @@ ghost use Rattle.model.specs.declared.answer.Answer.the-variants.{Refused};
 ghost use mathlib.Core.List.{[]};
 ghost use Rattle.lookups.specs.Lookups.{Passed};
 ghost use Rattle.patterns.specs.Members.{patternIn, PatternHolds};
-ghost use Rattle.planning.specs.Choices.{TablesChosen};
-use crate::choosing::choose_table;
+ghost use Rattle.plans.specs.Choices.{TablesChosen};
 use crate::ordering::mark_joined;
 use crate::ordering::pick;
-use crate::steps::no_plan;
 use model::answer::Answer;
 use model::answer::Planned;
 use model::plan::Plan;
 use patterns::pattern::Pattern;
 use patterns::positions::term_count;
 use patterns::questions::read_check;
+use plans::choosing::choose_table;
+use plans::steps::no_plan;
 
 // For each place: the choice of its table, the rows of that table, and the terms among its positions.
 pub fn choose_tables(

@@ -3,4 +3,3 @@ pub mod Exchanges
 pub mod RowWords
 pub mod Sinking
 pub mod HeapSort
-pub mod WordSearch

@@ -1,4 +1,3 @@
 -- What the functions of this crate are held to.
 pub mod Rows
 pub mod Heaps
-pub mod Search

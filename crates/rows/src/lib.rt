@@ -1,4 +1,3 @@
-// Rows of words: their order, sorting them in place, and searching them.
+// Rows of words: their order, and sorting them in place.
 pub mod row_order;
-pub mod search;
 pub mod sorting;

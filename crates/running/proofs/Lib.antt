@@ -2,8 +2,6 @@
 pub mod EmptyTables
 pub mod StepNumbers
 pub mod Variables
-pub mod RowResults
-pub mod Exchanges
 pub mod PlanRows
 pub mod TableRows
 pub mod Rearranged

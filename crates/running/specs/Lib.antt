@@ -1,5 +1,4 @@
 -- What the functions of this crate are held to, in terms of the definitions.
 pub mod Emptiness
 pub mod Chosen
-pub mod Arranged
 pub mod WholeTable

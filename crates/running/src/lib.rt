@@ -1,7 +1,5 @@
 // The run of a check by a given plan: none by the counts, or the join of the plan's tables, counted, written and sorted.
-pub mod arranging;
 pub mod counts;
-pub mod results;
 pub mod runner;
 pub mod steps;
 pub mod width;

@@ -5,5 +5,3 @@ pub mod limits;
 pub mod number;
 pub mod operands;
 pub mod row_order;
-pub mod semi_join_count;
-pub mod semi_join_write;

@@ -4,8 +4,8 @@ use native.Mathlib.Omega.{arith}
 use mathlib.Core.Path.{_≡_, ap}
 use lib.ListN.{length}
 use borrow.Author.Count.{below-more}
-use Rattle.rows.specs.Search.{wordAt}
-use Rattle.rows.proofs.WordSearch.{word-inside}
+use Rattle.searching.specs.Search.{wordAt}
+use Rattle.searching.proofs.WordSearch.{word-inside}
 use Rattle.columns.proofs.ColumnRanges.{Near, all-near, not-near}
 use Rattle.columns.proofs.ranges.is_gapless.Statement.{statement}
 use Rattle.columns.proofs.ranges.is_gapless.Tie as tie

@@ -4,8 +4,8 @@ use native.Mathlib.Omega.{arith}
 use mathlib.Core.Path.{sym, _∙_, subst}
 use lib.ListN.{length}
 use borrow.Author.Needs.{needs}
-use Rattle.rows.specs.Search.{hasWord}
-use Rattle.rows.proofs.WordSearch.{word-inside}
+use Rattle.searching.specs.Search.{hasWord}
+use Rattle.searching.proofs.WordSearch.{word-inside}
 use Rattle.columns.specs.Ranges.{RangeOf}
 use Rattle.columns.proofs.ColumnRanges.{no-range, range}
 use Rattle.columns.proofs.ranges.range_of.Statement.{statement}

@@ -16,7 +16,7 @@ use Rattle.model.proofs.Choosing.{chosen-table}
 use Rattle.patterns.specs.Members.{patternIn}
 use Rattle.patterns.specs.declared.pattern.Pattern.{Pattern as Members}
 use Rattle.patterns.proofs.MemberLaws.{pattern-length}
-use Rattle.planning.proofs.PlanReading.{choice-small, place-noted}
+use Rattle.plans.proofs.PlanReading.{choice-small, place-noted}
 use Rattle.planning.proofs.OrderSteps.{joins-more, Begun, stepAt, begun-none, begun-more, begun-inside, place-written, plan-written}
 use Rattle.planning.proofs.planner.plan_pattern.Statement.{statement}
 use Rattle.planning.proofs.planner.plan_pattern.Tie as tie

@@ -1,0 +1,4 @@
+// Which values have partners: one value searched, the rows that are left counted, and compared.
+pub mod comparing;
+pub mod counting;
+pub mod values;

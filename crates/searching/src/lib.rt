@@ -1,0 +1,2 @@
+// Words that ascend, searched.
+pub mod search;
