@@ -20,7 +20,7 @@ use Rattle.model.proofs.Below.{from-below, into-below}
 use Rattle.searching.specs.Search.{wordAt, Ascending, hasWord}
 use Rattle.searching.proofs.WordSearch.{word-found, before-first, behind-last}
 use Rattle.tables.proofs.Rows.{rows-at}
-use Rattle.tables.proofs.Partners.{hasPartner, partner-found, leftOf, row-left, row-not-left}
+use Rattle.tables.proofs.Partners.{hasPartner, partner-found, at-column, leftOf, row-left, row-not-left}
 use Rattle.columns.specs.Ranges.{isGapless, RangeOf, hasValue, ColumnRange, AllMeasured, apart, isReached}
 use Rattle.columns.proofs.Partnered.{partner-of-value}
 
@@ -131,14 +131,14 @@ module _ (words : List ℕ) (start : ℕ) where
   pub no-values : RangeOf (hasValue words start 0 1) 1 0 0
   no-values = record { between = λ x e. absurd (false≢true e); attained = λ l. absurd (omega arith); gapless = λ e. absurd (omega arith) }
 
-  pub one-more-value : (i : ℕ) → start + 2 * (i + 1) ≤ length words → (x : ℕ)
-      → hasValue words start (i + 1) 1 x ≡ (hasValue words start i 1 x || eqb x (getD words (start + 2 * i + 1) 0))
-  one-more-value i h x = rw (rows-at words start i 0 h, any-append, or-false) refl
+  pub one-more-value : (i column : ℕ) → column < 2 → start + 2 * (i + 1) ≤ length words → (x : ℕ)
+      → hasValue words start (i + 1) column x ≡ (hasValue words start i column x || eqb x (getD words (start + 2 * i + column) 0))
+  one-more-value i column c h x = rw (rows-at words start i 0 h, any-append, or-false, at-column words start i column c) refl
 
   pub one-value : start + 2 ≤ length words → RangeOf (hasValue words start 1 1) (getD words (start + 1) 0) (getD words (start + 1) 0) 0
   one-value h =
       let first : getD words (start + 2 * 0 + 1) 0 ≡ getD words (start + 1) 0 = ap (λ (k : ℕ). getD words k 0) (omega arith) in
-      range-one (getD words (start + 1) 0) (λ x. one-more-value 0 (omega arith) x ∙ ap (eqb x) first)
+      range-one (getD words (start + 1) 0) (λ x. one-more-value 0 1 (omega arith) (omega arith) x ∙ ap (eqb x) first)
 
 -- where the words that ascend and are the values have no gaps, the range has none
 pub range-whole : {p : ℕ → Bool} {lowest highest : ℕ} (before whole : ℕ) (copy : List ℕ) (n : ℕ)

@@ -8,7 +8,10 @@ ghost use Rattle.tables.specs.Columns.{kindOfColumns};
 ghost use Rattle.searching.specs.Search.{Ascending, hasWord};
 ghost use Rattle.columns.specs.Searching.{passing, Searchable, ObjectsSorted};
 ghost use Rattle.columns.specs.Ranges.{hasValue, ColumnRange};
-use searching::search::skip_below;
+ghost use Rattle.partners.specs.Marks.{Marked};
+use crate::marks::FEW;
+use crate::marks::mark_values;
+use crate::walking::walk_to;
 use tables::operands::Operands;
 
 // How many of m ascending words are among n others: these ascend too, so that both are walked once, side by side.
@@ -21,17 +24,19 @@ fn count_common(
     base: usize,
     stride: usize,
     n: usize,
+    marks: &[u8],
 ) -> usize
     requires { ⌜ (0 < step) × (from + step * m ≤ length (now own)) × Ascending (now own) from step m ⌝ }
-    requires { ⌜ (0 < stride) × (base + stride * n ≤ length (now words)) × Ascending (now words) base stride n ⌝ }
+    requires { ⌜ (0 < stride) × (base + stride * n ≤ length (now words)) × Ascending (now words) base stride n × Marked (hasWord (now words) base stride n) (now marks) ⌝ }
     ensures { λ r. ⌜ r ≡ passing (now (own .entry)) from step m (hasWord (now (words .entry)) base stride n) ⌝ }
 {
     let mut kept: usize = 0;
     let mut place: usize = 0;
     for i in 0..m {
         let value = own[from + step * i];
-        place = skip_below(words, base, stride, n, place, value);
-        if place < n && words[base + stride * place] == value {
+        let met = walk_to(words, base, stride, n, marks, place, value);
+        place = met.place;
+        if met.found {
             kept += 1;
         }
     }
@@ -47,18 +52,42 @@ fn count_values(
     objects: &[u32],
     first: usize,
     o: Operands,
+    marks: &[u8],
 ) -> usize
     requires { ⌜ (0 < stride) × (base + stride * o .rows ≤ length (now own)) × Ascending (now own) base stride (o .rows) ⌝ }
     requires { ⌜ Searchable (now w) (now objects) first (o .against) (o .partners) × (o .other < 2) × (o .other ≡ 1 → ObjectsSorted (now w) (now objects) first (o .against) (o .partners)) ⌝ }
+    requires { ⌜ Marked (hasValue (now w) (o .against) (o .partners) (o .other)) (now marks) ⌝ }
     ensures { λ r. ⌜ r ≡ passing (now (own .entry)) base stride (o .rows) (hasValue (now (w .entry)) (o .against) (o .partners) (o .other)) ⌝ }
 {
     let m = o.rows;
     let n = o.partners;
     if o.other == 0 {
-        return count_common(own, base, stride, m, w, o.against, 2, n);
+        return count_common(own, base, stride, m, w, o.against, 2, n, marks);
     }
     let copy = (o.against - first) / 2;
-    count_common(own, base, stride, m, objects, copy, 1, n)
+    count_common(own, base, stride, m, objects, copy, 1, n, marks)
+}
+
+// The same, with marks of the partners' values where they are not few.
+fn count_marked(
+    own: &[u32],
+    base: usize,
+    stride: usize,
+    w: &[u32],
+    objects: &[u32],
+    first: usize,
+    o: Operands,
+) -> usize
+    requires { ⌜ (0 < stride) × (base + stride * o .rows ≤ length (now own)) × Ascending (now own) base stride (o .rows) ⌝ }
+    requires { ⌜ Searchable (now w) (now objects) first (o .against) (o .partners) × (o .other < 2) × (o .other ≡ 1 → ObjectsSorted (now w) (now objects) first (o .against) (o .partners)) ⌝ }
+    ensures { λ r. ⌜ r ≡ passing (now (own .entry)) base stride (o .rows) (hasValue (now (w .entry)) (o .against) (o .partners) (o .other)) ⌝ }
+{
+    if o.partners < FEW {
+        return count_values(own, base, stride, w, objects, first, o, &[0u8; 1]);
+    }
+    let mut marks = [0u8; 1024];
+    mark_values(w, o.against, o.partners, o.other, &mut marks);
+    count_values(own, base, stride, w, objects, first, o, &marks)
 }
 
 // How many rows a semi-join of predicate p against q leaves, by the columns that are compared. By their ranges all may be left; else both
@@ -87,8 +116,8 @@ pub fn count_partnered(
         return o.rows;
     }
     if o.own == 0 {
-        return count_values(w, o.start, 2, w, objects, first, o);
+        return count_marked(w, o.start, 2, w, objects, first, o);
     }
     let copy = (o.start - first) / 2;
-    count_values(objects, copy, 1, w, objects, first, o)
+    count_marked(objects, copy, 1, w, objects, first, o)
 }

@@ -65,7 +65,7 @@ loop-again c =
       omega arith,
       omega arith,
       omega (arith, low .0, high .0),
-      range-more value (one-more-value (s .args .w .now) (s .args .start) (l .loop .i) (omega arith)) (l .loop .inv .2) (low .0) (low .1) (low .2) (high .0) (high .1) (high .2) (l .loop .inv .3),
+      range-more value (one-more-value (s .args .w .now) (s .args .start) (l .loop .i) 1 (omega arith) (omega arith)) (l .loop .inv .2) (low .0) (low .1) (low .2) (high .0) (high .1) (high .2) (l .loop .inv .3),
     )
 
 returns-2 : tie.Need-returns-2 Inv-loop μ-loop

@@ -77,21 +77,21 @@ returns c =
     sym (all-left (a .w .now) (a .ranges .now) (6 * a .p + 3 * o .own) (6 * a .q + 3 * o .other) (o .start) (o .rows) (o .own) (o .against) (o .partners) (o .other) (s .pre .0 .1) (s .pre .0 .0 .inside)
     (s .pre .1 .1 .2) (s .pre .1 .1 .3) (c .before .before .if1 .taken) (leb-true _ _ (c .before .if2 .taken)) (leb-true _ _ (c .if3 .taken)) (o .rows) (le-refl _))
 
-count-values-requires : tie.Need-count-values-requires
-count-values-requires c κs = search needs
+count-marked-requires : tie.Need-count-marked-requires
+count-marked-requires c κs = search needs
 
 returns-2 : tie.Need-returns-2
 returns-2 c =
     let s = c .before .before .before .before .before .before .before .before .before .before .before .before .before in
     let a = s .args in
     let o = a .o in
-    rw (c .before .if4 .taken) (c .count-values .ensures ∙ rows-left 0 (a .w .now) (o .against) (o .partners) (o .other) (same-subjects _ _ _ (s .pre .0 .0 .inside)))
+    rw (c .before .if4 .taken) (c .count-marked .ensures ∙ rows-left 0 (a .w .now) (o .against) (o .partners) (o .other) (same-subjects _ _ _ (s .pre .0 .0 .inside)))
 
 sub-copy : tie.Need-sub-copy
 sub-copy c = search needs
 
-count-values-requires-2 : tie.Need-count-values-requires-2
-count-values-requires-2 c κs =
+count-marked-requires-2 : tie.Need-count-marked-requires-2
+count-marked-requires-2 c κs =
     let pre = c .before .before .before .before .before .before .before .before .before .before .before .before .before .pre in
     ((omega arith, omega (arith, pre .0 .0 .copied), pre .0 .2 (omega (arith, pre .0 .1, c .before .if4 .left)) .objects-ascend), pre .1 .0)
 
@@ -101,7 +101,7 @@ returns-3 c =
     let a = s .args in
     let o = a .o in
     let object : o .own ≡ 1 = omega (arith, s .pre .0 .1, c .before .before .if4 .left) in
-    rw object (c .count-values2 .ensures ∙ rows-left 1 (a .w .now) (o .against) (o .partners) (o .other) (s .pre .0 .2 object .same-objects))
+    rw object (c .count-marked2 .ensures ∙ rows-left 1 (a .w .now) (o .against) (o .partners) (o .other) (s .pre .0 .2 object .same-objects))
 
 pub count-partnered-spec : {M : Type 1} → statement M
 count-partnered-spec =
@@ -127,8 +127,8 @@ count-partnered-spec =
     mul-if1
     element-copy-out-if1
     returns
-    count-values-requires
+    count-marked-requires
     returns-2
     sub-copy
-    count-values-requires-2
+    count-marked-requires-2
     returns-3)

@@ -1,0 +1,29 @@
+ghost use mathlib.Core.Path.{_≡_};
+ghost use Prim.Native.Nat.{_<_, _≤_, _+_, _*_};
+ghost use lib.ListN.{length};
+ghost use Rattle.columns.specs.Ranges.{hasValue};
+ghost use Rattle.partners.specs.Marks.{markCount, isMarked, Marked};
+
+// To mark fewer values costs more than it saves.
+pub const FEW: usize = 16;
+
+// Marks the remainders of the values that the n rows at `start` have at a column.
+pub fn mark_values(w: &[u32], start: usize, n: usize, column: usize, marks: &mut [u8; 1024])
+    requires { ⌜ (start + 2 * n ≤ length (now w)) × (column < 2) × (length (now marks) ≡ markCount) ⌝ }
+    ensures { λ _. ⌜ Marked (hasValue (now (w .entry)) start n column) (now (marks .exit)) × (length (now (marks .exit)) ≡ markCount) ⌝ }
+{
+    for i in 0..n {
+        let remainder = w[start + 2 * i + column] % 1024;
+        marks[remainder as usize] = 1;
+    }
+}
+
+// Whether a value may be one of those that were marked: its remainder is, or no marks are kept.
+pub fn is_marked(marks: &[u8], value: u32) -> bool
+    ensures { λ r. ⌜ r ≡ isMarked (now (marks .entry)) value ⌝ }
+{
+    if marks.len() != 1024 {
+        return true;
+    }
+    marks[(value % 1024) as usize] == 1
+}
