@@ -36,7 +36,7 @@ fn stored_end(
     here: usize,
     used: usize,
 ) -> Place
-    requires { ⌜ (o .start + 2 * o .rows ≤ length (now w)) × Searchable (now w) (now objects) first (o .against) (o .partners) × (o .own < 2) × (o .other < 2) ⌝ }
+    requires { ⌜ Searchable (now w) (now objects) first (o .start) (o .rows) × Searchable (now w) (now objects) first (o .against) (o .partners) × (o .own < 2) × (o .other < 2) ⌝ }
     requires { ⌜ (o .other ≡ 1 → ObjectsSorted (now w) (now objects) first (o .against) (o .partners)) × (left ≤ o .rows) × (here ≤ used) × (used ≤ length (now w)) ⌝ }
     ensures { λ r. ⌜ r ≡ cond (storedHolds (now (w .entry)) (semiJoin (kindOfColumns (o .own) (o .other)) (rowsIn (o .rows) (drop (o .start) (now (w .entry)))) (rowsIn (o .partners) (drop (o .against) (now (w .entry))))) start left here used) (At (here + 2 * left)) Wrong ⌝ }
 {

@@ -99,3 +99,9 @@ pub rows-left : {words : List ℕ} {base stride m : ℕ} {rows : List Row} (own 
     → passing words base stride m (hasValue w q n other) ≡ length (semiJoin (kindOfColumns own other) rows (rowsIn n (drop q w)))
 unfolding semiJoin
 rows-left own w q n other same = same .as-often (hasValue w q n other)
+
+-- where the own column is the subject, they are the rows whose subject is among words that are the partners' values
+pub subjects-left : {words : List ℕ} {base stride n : ℕ} {partners : List Row} (rows : List Row) (other : ℕ) → SameValues words base stride n (columnOf other) partners
+    → keep (λ row. hasWord words base stride n (row .0)) rows ≡ semiJoin (kindOfColumns 0 other) rows partners
+unfolding semiJoin
+subjects-left rows other same = keep-same _ _ rows (λ r m. same-answers same (r .0))

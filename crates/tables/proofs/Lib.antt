@@ -2,6 +2,7 @@ pub mod Groups
 pub mod Setting
 pub mod Rows
 pub mod Proper
+pub mod Kept
 pub mod Partners
 pub mod Images
 pub mod Entries

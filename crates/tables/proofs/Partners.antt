@@ -2,10 +2,10 @@
 use Prim.Native.Nat.{ℕ, zero, suc, _+_, _-_, _*_, _<_, _≤_}
 use native.Mathlib.Omega.{arith}
 use native.Mathlib.Nat.{add-zero}
-use mathlib.Core.Path.{_≡_, refl, sym, ap, _∙_}
-use mathlib.Core.Bool.{Bool, true, false, cond}
-use mathlib.Core.List.{List, [], _∷_, _++_, append-nil}
-use lib.ListN.{length, getD, drop, length-append}
+use mathlib.Core.Path.{_≡_, refl, sym}
+use mathlib.Core.Bool.{Bool, true, false}
+use mathlib.Core.List.{List, [], _∷_, _++_}
+use lib.ListN.{length, getD, drop}
 use lib.Dec.{eqb}
 use borrow.Author.Tests.{eq-eqb, ne-eqb}
 use Rattle.model.specs.Lists.{any}
@@ -13,10 +13,11 @@ use Rattle.model.specs.Site.{Row}
 use Rattle.model.specs.Tables.{at, arePartners, semiJoin}
 use Rattle.model.specs.Store.{rowsIn}
 use Rattle.model.proofs.Booleans.{or-right}
-use Rattle.model.proofs.Membership.{any-append, keep-append}
+use Rattle.model.proofs.Membership.{any-append}
 use Rattle.model.proofs.Blocks.{Block}
 use Rattle.tables.specs.Columns.{columnOf, kindOfColumns}
 use Rattle.tables.proofs.Rows.{rowAt, rows-at}
+use Rattle.tables.proofs.Kept.{row-not-kept, row-kept, more-kept, kept-block}
 
 -- ---- row i at p, and the first rows at q
 
@@ -53,32 +54,24 @@ unfoldable pub leftOf : List ℕ → ℕ → ℕ → ℕ → ℕ → ℕ → ℕ
 leftOf w p i own q n other = semiJoin (kindOfColumns own other) (rowsIn i (drop p w)) (rowsIn n (drop q w))
 
 module _ (w : List ℕ) (p i own q n other : ℕ) where
-  left-at : (r : ℕ) → p + 2 * (i + suc r) ≤ length w →
-      let after = leftOf w (p + 2 * suc i) r own q n other in
-      leftOf w p (i + suc r) own q n other ≡ leftOf w p i own q n other ++ cond (hasPartner w p i own q n other) (rowAt w p i ∷ after) after
-  unfolding leftOf hasPartner semiJoin
-  left-at r h = rw (rows-at w p i r h, keep-append) refl
+  abbrev isPartnered : Row → Bool
+  isPartnered r = any (arePartners (kindOfColumns own other) r) (rowsIn n (drop q w))
 
   pub row-not-left : p + 2 * (i + 1) ≤ length w → hasPartner w p i own q n other ≡ false → leftOf w p (i + 1) own q n other ≡ leftOf w p i own q n other
-  unfolding leftOf semiJoin
-  row-not-left h e = left-at 0 h ∙ rw e (append-nil _)
+  unfolding leftOf hasPartner semiJoin
+  row-not-left h e = row-not-kept w p i isPartnered h e
 
   module _ (e : hasPartner w p i own q n other ≡ true) where
     pub row-left : p + 2 * (i + 1) ≤ length w → leftOf w p (i + 1) own q n other ≡ leftOf w p i own q n other ++ rowAt w p i ∷ []
-    unfolding leftOf semiJoin
-    row-left h = left-at 0 h ∙ rw e refl
+    unfolding leftOf hasPartner semiJoin
+    row-left h = row-kept w p i isPartnered e h
 
     -- it is left of all m rows too
     pub more-left : (m : ℕ) → i < m → p + 2 * m ≤ length w → length (leftOf w p i own q n other) < length (leftOf w p m own q n other)
-    more-left m l h =
-        let s : m ≡ i + suc (m - suc i) = omega arith in
-        rw (s, left-at (m - suc i) (omega arith), e, length-append) (omega arith)
+    unfolding leftOf hasPartner semiJoin
+    more-left m l h = more-kept w p i isPartnered e m l h
 
     -- behind those that are left of the first i
     pub left-block : (m : ℕ) → i < m → p + 2 * m ≤ length w → Block (leftOf w p m own q n other) (length (leftOf w p i own q n other)) (rowAt w p i ∷ [])
-    left-block m l h = record {
-      before = leftOf w p i own q n other;
-      after = leftOf w (p + 2 * suc i) (m - suc i) own q n other;
-      whole = ap (λ (k : ℕ). leftOf w p k own q n other) (omega arith) ∙ left-at (m - suc i) (omega arith) ∙ rw e refl;
-      length-before = refl;
-    }
+    unfolding leftOf hasPartner semiJoin
+    left-block m l h = kept-block w p i isPartnered e m l h

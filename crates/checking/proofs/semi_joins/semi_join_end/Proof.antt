@@ -236,7 +236,7 @@ stored-end-requires c κs =
     let e = c .before .before in
     let o = e .before .before .before .before .before .before .before .before in
     let operands = o .operands-of .ensures .0 in (
-      (operands .inside, partners-searchable o, operands .own-column, operands .partner-column),
+      (rows-searchable o, partners-searchable o, operands .own-column, operands .partner-column),
       (partners-sorted o (sym (e .before .columns-apart .ensures) ∙ e .if2 .left), omega (arith, e .before .before .before .before .if1 .left), start o .pre .0 .5, start o .pre .0 .6),
     )
 

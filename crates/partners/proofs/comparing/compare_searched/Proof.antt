@@ -14,8 +14,8 @@ use Rattle.tables.proofs.Rows.{rowAt}
 use Rattle.tables.proofs.Partners.{hasPartner, leftOf, row-not-left, row-left, left-block}
 use Rattle.partners.proofs.ComparedRows.{Compared, none-compared, row-compared, too-many, differs, verdict}
 use Rattle.columns.proofs.Partnered.{partner-of-value}
-use Rattle.partners.proofs.comparing.compare_rows.Statement.{statement}
-use Rattle.partners.proofs.comparing.compare_rows.Tie as tie
+use Rattle.partners.proofs.comparing.compare_searched.Statement.{statement}
+use Rattle.partners.proofs.comparing.compare_searched.Tie as tie
 
 abbrev Inv-loop : tie.InvT-loop
 Inv-loop w objects first marks at k p m own q n other end next₀ i₀ next i = (i ≤ m) × Compared w at k (leftOf w p i own q n other) next
@@ -142,8 +142,8 @@ returns-3 c =
     let all : c .before .loop .i ≡ start .args .o .rows = omega arith in
     verdict _ _ _ (start .pre .1 .1 .0) (rw all at (c .before .loop .inv .1))
 
-pub compare-rows-spec : {M : Type 1} → statement M
-compare-rows-spec =
+pub compare-searched-spec : {M : Type 1} → statement M
+compare-searched-spec =
     tie.close
     (tie.spec
     Inv-loop
