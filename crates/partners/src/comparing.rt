@@ -73,7 +73,7 @@ fn compare_walked(
     ensures { λ r. ⌜ r ≡ sameWords (take (2 * k) (drop at (now (w .entry)))) (tableWords (keep (λ row. hasWord (now (words .entry)) base stride n (row .0)) (rowsIn m (drop start (now (w .entry)))))) ⌝ }
 {
     let end = at + 2 * k;
-    let mut next = at;
+    let mut here = at;
     let mut place: usize = 0;
     for i in 0..m {
         let row = start + 2 * i;
@@ -81,16 +81,16 @@ fn compare_walked(
         let met = walk_to(words, base, stride, n, marks, place, value);
         place = met.place;
         if met.found {
-            if next == end {
+            if here == end {
                 return false;
             }
-            if w[next] != value || w[next + 1] != w[row + 1] {
+            if w[here] != value || w[here + 1] != w[row + 1] {
                 return false;
             }
-            next += 2;
+            here += 2;
         }
     }
-    next == end
+    here == end
 }
 
 // The rows that are left, compared: where the own column is the subject by a walk, else by search.

@@ -22,12 +22,12 @@ abbrev isAmong : List ℕ → ℕ → ℕ → ℕ → Row → Bool
 isAmong words base stride n row = hasWord words base stride n (row .0)
 
 abbrev Inv-loop : tie.InvT-loop
-Inv-loop w start m words base stride n marks at k end next₀ place₀ i₀ next place i =
-    (i ≤ m) × (place ≤ n) × Compared w at k (keptOf w start i (isAmong words base stride n)) next
+Inv-loop w start m words base stride n marks at k end here₀ place₀ i₀ here place i =
+    (i ≤ m) × (place ≤ n) × Compared w at k (keptOf w start i (isAmong words base stride n)) here
     × ((j l : ℕ) → j < place → i ≤ l → l < m → wordAt words base stride j < wordAt w start 2 l)
 
 abbrev μ-loop : tie.MeasureT-loop
-μ-loop w start m words base stride n marks at k end next₀ place₀ i₀ next place i = m - i
+μ-loop w start m words base stride n marks at k end here₀ place₀ i₀ here place i = m - i
 
 -- what is answered is whether the subject of row i is among the words
 answer : (c : tie.After-walk-to Inv-loop μ-loop) →
@@ -109,8 +109,8 @@ returns-2 c =
     differs _ _ _ (outer .before .before .before .before .pre .0 .2) (outer .loop .inv .2) (at-hand match)
     (λ first second. ⊎-elim (λ w. w .taken first) (λ w. eqb-false _ _ (not-true _ (w .3 .taken)) second) (c .if3 .came))
 
-add-next : tie.Need-add-next Inv-loop μ-loop
-add-next c = search needs
+add-here : tie.Need-add-here Inv-loop μ-loop
+add-here c = search needs
 
 add-i : tie.Need-add-i Inv-loop μ-loop
 add-i c = search needs
@@ -167,7 +167,7 @@ compare-walked-spec =
     mul-if4-2
     shared-slice-read-if4-2
     returns-2
-    add-next
+    add-here
     add-i
     loop-less
     loop-again
