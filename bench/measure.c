@@ -1,7 +1,7 @@
-/* Times each call of the archive beside plain C, three ways, and beside SQLite, on the sites and checks of shops.c. Prints a
- * line for each call, site and check, its columns apart by tabs:
+/* Times each call of the archive beside plain C, two ways, beside the archive of before and beside SQLite, on the sites and checks of
+ * shops.c. Prints a line for each call, site and check, its columns apart by tabs:
  *   call, site, rows of the site, check, triple patterns, rows of the answer (-1 for none by refusal 21), then for each engine (ours, plain C
- *   by the same algorithm, by the one before it and at its best, SQLite, SQLite with its check) the median and the two quartiles in
+ *   by the same algorithm, the archive of before, plain C at its best, SQLite, SQLite with its check) the median and the two quartiles in
  *   nanoseconds; 0 where an engine has no such call.
  * `measure --inputs` prints the sites and the checks in hexadecimal and times nothing.
  * All engines run in one process; their repeats are interleaved, so that what slows the machine slows them alike. */
@@ -36,13 +36,13 @@ static void engine_build(void) {
     closing_build(1000, workload.site.byte, workload.site.size, store, STORE_WORDS, answer);
 }
 
-/* The three ways of plain.c; a build is the same in each. */
+/* A build is the same in each. */
 #define TIMED(way)                                                                                   \
     static void way##_plans(void) { way##_plan(store, used, check->byte, check->size, plan, answer); } \
     static void way##_runs(void) { way##_run(store, used, check->byte, check->size, plan, plan_bytes, rows, ROW_WORDS, answer); }
 
 TIMED(search)
-TIMED(scan)
+TIMED(before)
 TIMED(best)
 
 static void c_build(void) {
@@ -142,14 +142,14 @@ static void measure_check(void) {
     peer_prepare(peer, check->byte, check->size);
     long found = rows_found();
     print_line("plan", found);
-    time_calls((call *const[]){engine_plan, search_plans, scan_plans, best_plans, NULL, NULL});
+    time_calls((call *const[]){engine_plan, search_plans, before_plans, best_plans, NULL, NULL});
     print_line("run", found);
-    time_calls((call *const[]){engine_run, search_runs, scan_runs, best_runs, peer_ask, peer_ask_checked});
+    time_calls((call *const[]){engine_run, search_runs, before_runs, best_runs, peer_ask, peer_ask_checked});
     for (size_t n = 0; n < plan_bytes; n += 2)
         plan[n + 1] = 0;
     if (memcmp(plan, own, sizeof own) != 0) {
         print_line("run, VP alone", rows_found());
-        time_calls((call *const[]){engine_run, search_runs, scan_runs, best_runs, NULL, NULL});
+        time_calls((call *const[]){engine_run, search_runs, before_runs, best_runs, NULL, NULL});
     }
 }
 

@@ -1,5 +1,5 @@
-/* plain.h - the engine's calls in plain C, three ways (plain.c says which), to compare its speed with: the calls of closing.h under other
- * names, nothing proved.
+/* plain.h - what the engine's speed is compared with: its calls in plain C, two ways (plain.c says which), and those of its archive as it
+ * was before question 10 and the join were made by search. They are the calls of closing.h under other names; of plain C nothing is proved.
  *
  * Inputs, answers, refusals and lent memory are those of closing.h, word for word. */
 #ifndef PLAIN_H
@@ -15,7 +15,7 @@
     uint32_t way##_run(const uint32_t *store, size_t store_words, const uint8_t *pattern, size_t pattern_bytes, const uint8_t *plan,       \
                        size_t plan_bytes, uint32_t *rows, size_t row_words, uint64_t answer[4]);
 
-PLAIN_CALLS(scan)
+PLAIN_CALLS(before)
 PLAIN_CALLS(search)
 PLAIN_CALLS(best)
 

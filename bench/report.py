@@ -155,7 +155,7 @@ def build_table(measured, sites):
 
 
 def faster(line):
-    """How many times faster than before the search, as plain C goes."""
+    """How many times faster than the archive of before."""
     return cell(line.median(BEFORE) / line.median(ENGINE), '%.1f')
 
 
@@ -219,8 +219,8 @@ def results(folder):
     worst = max(line.spread(engine) for line in everything for engine in range(6))
     text = ['# What a closing check costs', '', 'Written by `bench/run`; medians of 21 interleaved repeats in one process, on %s. Compare ratios of' % platform.machine(),
             'one run, not times of two. The widest distance between quartiles was %.0f %% of a median.' % (100 * worst), '',
-            'Plain C is the same algorithm; best C the fastest that we could write for the same calls; before is the algorithm until question 10 and the join',
-            'were made by search, in plain C, with which the engine of then was level.', '',
+            'Plain C is the same algorithm; best C the fastest that we could write for the same calls; before is the archive of the last commit before',
+            'question 10 and the join were made by search.', '',
             bounds('Engine over plain C', [line.ratio(PLAIN) for line in measured]), '',
             best_bounds('Engine over best C, plan and run', measured), '',
             bounds('Run over SQLite with quick_check', [line.ratio(CHECKED) for line in measured if line.call == 'run']), '',

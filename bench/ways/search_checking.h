@@ -1,4 +1,4 @@
-/* As the engine is: question 10 by ranges, by walking two columns, and by search. Included by plain.c. */
+/* As the engine is: question 10 by ranges, by marks, by walking two columns, and by search. Included by plain.c. */
 
 static bool search_word(const uint32_t *words, size_t stride, size_t n, uint32_t value) {
     return words[stride * (n - 1)] >= value && words[stride * words_below(words, stride, n, value)] == value;
@@ -77,21 +77,43 @@ static void copy_objects(const uint32_t *store, size_t count, struct sorted *sor
     }
 }
 
+/* A value whose remainder is not marked is none of the values marked. Few values are not marked, and then all count as such. */
+enum { MARKS = 1024, FEW = 16 };
+struct marks { bool kept; uint8_t mark[MARKS]; };
+
+static void mark_values(struct marks *marks, const uint32_t *values, size_t n) {
+    marks->kept = n >= FEW;
+    if (!marks->kept) return;
+    memset(marks->mark, 0, sizeof marks->mark);
+    for (size_t i = 0; i < n; i++) marks->mark[values[2 * i] % MARKS] = 1;
+}
+
+static bool is_marked(const struct marks *marks, uint32_t value) { return !marks->kept || marks->mark[value % MARKS] == 1; }
+
+/* Whether an ascending column has a value, by a walk from a place before which all words are below it. */
+static bool walk_to(struct column column, const struct marks *marks, size_t *place, uint32_t value) {
+    if (!is_marked(marks, value)) return false;
+    while (*place < column.n && column.words[column.stride * *place] < value) ++*place;
+    return *place < column.n && column.words[column.stride * *place] == value;
+}
+
 /* Both ascend, and are walked once. */
-static uint32_t count_common(struct column own, struct column partners) {
+static uint32_t count_common(struct column own, struct column partners, const struct marks *marks) {
     uint32_t kept = 0;
     size_t place = 0;
-    for (size_t i = 0; i < own.n; i++) {
-        const uint32_t value = own.words[own.stride * i];
-        while (place < partners.n && partners.words[partners.stride * place] < value) place++;
-        if (place < partners.n && partners.words[partners.stride * place] == value) kept++;
-    }
+    for (size_t i = 0; i < own.n; i++)
+        if (walk_to(partners, marks, &place, own.words[own.stride * i])) kept++;
     return kept;
 }
 
-static bool compare_partnered(const uint32_t *rows, size_t m, size_t own, struct column partners, const uint32_t *next, const uint32_t *end) {
+/* Subjects ascend and are walked, for objects each partner is searched. */
+static bool compare_partnered(const uint32_t *rows, size_t m, size_t own, struct column partners, const struct marks *marks, const uint32_t *next,
+                              const uint32_t *end) {
+    size_t place = 0;
     for (const uint32_t *row = rows; row != rows + 2 * m; row += 2) {
-        if (!has_word(partners.words, partners.stride, partners.n, row[own])) continue;
+        if (own == 0 ? !walk_to(partners, marks, &place, row[0])
+                     : !is_marked(marks, row[1]) || !has_word(partners.words, partners.stride, partners.n, row[1]))
+            continue;
         if (next == end || next[0] != row[0] || next[1] != row[1]) return false;
         next += 2;
     }
@@ -99,9 +121,11 @@ static bool compare_partnered(const uint32_t *rows, size_t m, size_t own, struct
 }
 
 /* All are left where the one range is within the other and that has no gaps; columns that are apart do not come here. */
-static uint32_t count_partnered(struct column own, struct column partners, const struct range *a, const struct range *b) {
+static uint32_t count_partnered(struct column own, struct column partners, const uint32_t *values, const struct range *a, const struct range *b) {
+    struct marks marks;
     if (b->whole && b->lowest <= a->lowest && a->highest <= b->highest) return (uint32_t)own.n;
-    return count_common(own, partners);
+    mark_values(&marks, values, partners.n);
+    return count_common(own, partners, &marks);
 }
 
 /* Where the stored rows of the semi-join of kind k of p against q end, if they begin at `here`; 0 where they or its entry are wrong. */
@@ -113,9 +137,14 @@ static size_t semi_join_end(const uint32_t *store, const struct sorted *sorted, 
     if (entry[0] > m) return 0;
     if (columns_apart(a, b)) return entry[0] == 0 && entry[1] == 0 ? here : 0;
     const struct column partners = column_of(store, sorted->objects, count, q, other);
-    if (is_stored(store[1], entry[0], (uint32_t)m))
-        return entry[1] == here && end <= used && compare_partnered(rows, m, own, partners, store + here, store + end) ? end : 0;
-    return entry[1] == 0 && count_partnered(column_of(store, sorted->objects, count, p, own), partners, a, b) == entry[0] ? here : 0;
+    const uint32_t *values = store + store[3 + 3 * q + 2] + other;
+    if (is_stored(store[1], entry[0], (uint32_t)m)) {
+        struct marks marks;
+        if (entry[1] != here || end > used) return 0;
+        mark_values(&marks, values, partners.n);
+        return compare_partnered(rows, m, own, partners, &marks, store + here, store + end) ? end : 0;
+    }
+    return entry[1] == 0 && count_partnered(column_of(store, sorted->objects, count, p, own), partners, values, a, b) == entry[0] ? here : 0;
 }
 
 /* No semi-join of p against q leaves a row, by the ranges, and the entries say so. */
