@@ -9,7 +9,7 @@ use mathlib.Core.List.{List, [], _∷_, _++_, map, List·Memᴰ·tail}
 use lib.ListN.{length, getD, take, drop}
 use lib.Dec.{ltb, leb}
 use borrow.Author.Tests.{ltb-true, lt-ltb, le-leb}
-use Rattle.model.specs.Lists.{_∈_, ascends, each, keep, below, wordsBefore}
+use Rattle.model.specs.Lists.{_∈_, ascends, keep, below, wordsBefore}
 use Rattle.model.specs.Reader.{gives}
 use Rattle.model.specs.Numbers.{areBytes}
 use Rattle.model.specs.Site.{Row, rowBefore, Site, isSite, IsFact, noTable, tableAt}
@@ -24,10 +24,10 @@ use Rattle.model.specs.Planner.{tableRows, chooseTable, isJoined, planne
 use Rattle.model.specs.Solutions.{IsSolution, solutions}
 use Rattle.model.specs.Parts.{PartsSolved}
 use Rattle.model.specs.Join.{joinRows}
-use Rattle.model.specs.Calls.{Outcome, over, either, unaltered, build, plan, noneByCounts, rowsOutcome, run}
+use Rattle.model.specs.Calls.{Outcome, either, unaltered, build, plan, noneByCounts, rowsOutcome, run}
 use Rattle.model.specs.Answers.{BuildAnswer, Accepted, PlanCallAnswer, RunAnswer}
 use Rattle.model.specs.Chain.{chainThreshold, chainStoreWords, chain, NoMatch}
-use Rattle.model.specs.declared.answer.Answer.the-variants.{Rows, None, Built, Refused}
+use Rattle.model.specs.declared.answer.Answer.the-variants.{None, Refused}
 use Rattle.model.proofs.Booleans.{and-cases, and-make, not-both}
 use Rattle.model.proofs.Membership.{at-place}
 use Rattle.model.proofs.Partition.{vp-fact, fact-vp, vp-ascends, vp-table}

@@ -1,2 +1,3 @@
 -- What the functions of this crate are held to.
 pub mod Marks
+pub mod StoredRows

@@ -1,4 +1,5 @@
 ghost use mathlib.Core.Path.{_≡_};
+ghost use mathlib.Core.Logic.{_≢_};
 ghost use Prim.Native.Nat.{_<_, _≤_, _+_, _*_};
 ghost use lib.ListN.{length, take, drop};
 ghost use Rattle.model.specs.Lists.{keep, sameWords};
@@ -9,11 +10,26 @@ ghost use Rattle.searching.specs.Search.{Ascending, hasWord};
 ghost use Rattle.columns.specs.Searching.{Searchable, ObjectsSorted};
 ghost use Rattle.columns.specs.Ranges.{hasValue};
 ghost use Rattle.partners.specs.Marks.{Marked};
+ghost use Rattle.partners.specs.StoredRows.{standsNext};
 use crate::marks::FEW;
 use crate::marks::mark_values;
 use crate::values::has_partner;
 use crate::walking::walk_to;
 use tables::operands::Operands;
+
+// Whether a stored row is left at `next`, and is the one at `row`.
+fn stands_next(w: &[u32], next: usize, end: usize, row: usize) -> bool
+    requires { ⌜ (next ≢ end → next + 2 ≤ length (now w)) × (row + 2 ≤ length (now w)) ⌝ }
+    ensures { λ r. ⌜ r ≡ standsNext (now (w .entry)) next end row ⌝ }
+{
+    if next == end {
+        return false;
+    }
+    if w[next] != w[row] {
+        return false;
+    }
+    w[next + 1] == w[row + 1]
+}
 
 // Whether the k rows at `at` are those that are left, in their order: each row's partner is searched.
 fn compare_searched(
@@ -42,10 +58,7 @@ fn compare_searched(
         let row = p + 2 * i;
         let value = w[row + own];
         if has_partner(w, objects, first, marks, q, n, other, value) {
-            if next == end {
-                return false;
-            }
-            if w[next] != w[row] || w[next + 1] != w[row + 1] {
+            if !stands_next(w, next, end, row) {
                 return false;
             }
             next += 2;
@@ -81,10 +94,7 @@ fn compare_walked(
         let met = walk_to(words, base, stride, n, marks, place, value);
         place = met.place;
         if met.found {
-            if here == end {
-                return false;
-            }
-            if w[here] != value || w[here + 1] != w[row + 1] {
+            if !stands_next(w, here, end, row) {
                 return false;
             }
             here += 2;

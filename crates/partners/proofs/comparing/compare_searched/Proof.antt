@@ -6,13 +6,13 @@ use mathlib.Core.Logic.{⊎-elim}
 use mathlib.Core.List.{List, [], _∷_}
 use lib.ListN.{length}
 use borrow.Author.Needs.{needs}
-use borrow.Author.Tests.{eqb-true, eqb-false, not-true, not-false}
+use borrow.Author.Tests.{not-true, not-false}
 use Rattle.model.specs.Site.{Row}
 use Rattle.model.specs.Tables.{semiJoin}
 use Rattle.model.proofs.Blocks.{Block}
 use Rattle.tables.proofs.Rows.{rowAt}
 use Rattle.tables.proofs.Partners.{hasPartner, leftOf, row-not-left, row-left, left-block}
-use Rattle.partners.proofs.ComparedRows.{Compared, none-compared, row-compared, too-many, differs, verdict}
+use Rattle.partners.proofs.ComparedRows.{Compared, none-compared, room-for-one, next-compared, not-next, verdict}
 use Rattle.columns.proofs.Partnered.{partner-of-value}
 use Rattle.partners.proofs.comparing.compare_searched.Statement.{statement}
 use Rattle.partners.proofs.comparing.compare_searched.Tie as tie
@@ -69,49 +69,17 @@ shared-slice-read-value c = search needs
 has-partner-requires : tie.Need-has-partner-requires Inv-loop μ-loop
 has-partner-requires c κs = search needs
 
+stands-next-requires : tie.Need-stands-next-requires Inv-loop μ-loop
+stands-next-requires c κs =
+    let outer = c .before .before .before .before in
+    (room-for-one _ _ _ (outer .before .before .before .before .pre .1 .1 .0) (outer .loop .inv .1), omega arith)
+
 returns : tie.Need-returns Inv-loop μ-loop
 unfolding leftOf
 returns c =
-    let outer = c .before .before .before .before .before in
-    too-many _ _ _ (outer .before .before .before .before .pre .1 .1 .0) (outer .loop .inv .1) (at-hand (c .before)) (c .if2 .taken)
-
-mul-if3 : tie.Need-mul-if3 Inv-loop μ-loop
-mul-if3 c = search needs
-
-shared-slice-read-if3 : tie.Need-shared-slice-read-if3 Inv-loop μ-loop
-shared-slice-read-if3 c = search needs
-
-mul-if3-2 : tie.Need-mul-if3-2 Inv-loop μ-loop
-mul-if3-2 c = search needs
-
-shared-slice-read-if3-2 : tie.Need-shared-slice-read-if3-2 Inv-loop μ-loop
-shared-slice-read-if3-2 c = search needs
-
-add-if4 : tie.Need-add-if4 Inv-loop μ-loop
-add-if4 c = search needs
-
-mul-if4 : tie.Need-mul-if4 Inv-loop μ-loop
-mul-if4 c = search needs
-
-shared-slice-read-if4 : tie.Need-shared-slice-read-if4 Inv-loop μ-loop
-shared-slice-read-if4 c = search needs
-
-add-if4-2 : tie.Need-add-if4-2 Inv-loop μ-loop
-add-if4-2 c = search needs
-
-mul-if4-2 : tie.Need-mul-if4-2 Inv-loop μ-loop
-mul-if4-2 c = search needs
-
-shared-slice-read-if4-2 : tie.Need-shared-slice-read-if4-2 Inv-loop μ-loop
-shared-slice-read-if4-2 c = search needs
-
-returns-2 : tie.Need-returns-2 Inv-loop μ-loop
-unfolding leftOf
-returns-2 c =
-    let match = c .before .before .before .before in
+    let match = c .before .before in
     let outer = match .before .before .before .before in
-    differs _ _ _ (outer .before .before .before .before .pre .1 .1 .0) (outer .loop .inv .1) (at-hand match)
-    (λ first second. ⊎-elim (λ w. w .taken first) (λ w. eqb-false _ _ (not-true _ (w .3 .taken)) second) (c .if3 .came))
+    not-next _ _ _ (outer .before .before .before .before .pre .1 .1 .0) (outer .loop .inv .1) _ (at-hand match) (sym (c .before .stands-next .ensures) ∙ not-true _ (c .if2 .taken))
 
 add-next : tie.Need-add-next Inv-loop μ-loop
 add-next c = search needs
@@ -125,19 +93,20 @@ loop-less c = search needs
 loop-again : tie.Need-loop-again Inv-loop μ-loop
 loop-again c =
     let outer = c .before .before .before .before in
+    let start = outer .before .before .before .before in
     let before = outer .loop .inv .1 in (
       search needs,
       ⊎-elim
           (λ w.
-          let one-more = row-compared _ _ _ (outer .before .before .before .before .pre .1 .1 .0) before _ (omega arith) (w .4 .left) (eqb-true _ _ (not-false _ (w .7 .left))) in
-          rw (w .8, row-left _ _ _ _ _ _ _ (answer (c .before) ∙ w .0 .taken) (omega arith)) one-more)
+          let one-more = next-compared _ _ _ (start .pre .1 .1 .0) before _ (sym (w .1 .ensures) ∙ not-false _ (w .2 .left)) in
+          rw (w .3, row-left _ _ _ _ _ _ _ (answer (c .before) ∙ w .0 .taken) (omega arith)) one-more)
           (λ w. rw (w .1, row-not-left _ _ _ _ _ _ _ (omega arith) (answer (c .before) ∙ w .0 .left)) before)
           (c .if1 .came),
     )
 
-returns-3 : tie.Need-returns-3 Inv-loop μ-loop
+returns-2 : tie.Need-returns-2 Inv-loop μ-loop
 unfolding leftOf
-returns-3 c =
+returns-2 c =
     let start = c .before .before .before .before .before in
     let all : c .before .loop .i ≡ start .args .o .rows = omega arith in
     verdict _ _ _ (start .pre .1 .1 .0) (rw all at (c .before .loop .inv .1))
@@ -157,20 +126,10 @@ compare-searched-spec =
     mul-value
     shared-slice-read-value
     has-partner-requires
+    stands-next-requires
     returns
-    mul-if3
-    shared-slice-read-if3
-    mul-if3-2
-    shared-slice-read-if3-2
-    add-if4
-    mul-if4
-    shared-slice-read-if4
-    add-if4-2
-    mul-if4-2
-    shared-slice-read-if4-2
-    returns-2
     add-next
     add-i
     loop-less
     loop-again
-    returns-3)
+    returns-2)

@@ -1,5 +1,5 @@
 -- The invariant: those of the first i rows whose subject is among the words stand at `at`, and the words before `place` are below the subjects that follow.
-use Prim.Native.Nat.{ℕ, _+_, _-_, _≤_, _<_}
+use Prim.Native.Nat.{ℕ, _+_, _-_, _*_, _≤_, _<_}
 use native.Mathlib.Omega.{arith}
 use mathlib.Core.Path.{_≡_, sym, _∙_}
 use mathlib.Core.Logic.{⊎-elim}
@@ -7,13 +7,13 @@ use mathlib.Core.Bool.{Bool}
 use mathlib.Core.List.{List, [], _∷_}
 use lib.ListN.{length}
 use borrow.Author.Needs.{needs}
-use borrow.Author.Tests.{eqb-true, eqb-false, not-true, not-false}
+use borrow.Author.Tests.{not-true, not-false}
 use Rattle.model.specs.Site.{Row}
 use Rattle.model.proofs.Blocks.{Block}
 use Rattle.searching.specs.Search.{wordAt, hasWord}
 use Rattle.tables.proofs.Rows.{rowAt}
 use Rattle.tables.proofs.Kept.{keptOf, row-not-kept, row-kept, kept-block}
-use Rattle.partners.proofs.ComparedRows.{Compared, none-compared, row-compared, too-many, differs, verdict}
+use Rattle.partners.proofs.ComparedRows.{Compared, none-compared, room-for-one, next-compared, not-next, verdict}
 use Rattle.partners.proofs.comparing.compare_walked.Statement.{statement}
 use Rattle.partners.proofs.comparing.compare_walked.Tie as tie
 
@@ -73,41 +73,16 @@ walk-to-requires c κs =
     let inv = c .before .before .loop .inv in
     (s .pre .1, (inv .1, λ j h. inv .3 j _ h (omega arith) (omega arith)))
 
+stands-next-requires : tie.Need-stands-next-requires Inv-loop μ-loop
+stands-next-requires c κs =
+    let outer = c .before .before .before .before in
+    (room-for-one _ _ _ (outer .before .before .before .before .pre .0 .2) (outer .loop .inv .2), omega arith)
+
 returns : tie.Need-returns Inv-loop μ-loop
 returns c =
-    let outer = c .before .before .before .before .before in
-    too-many _ _ _ (outer .before .before .before .before .pre .0 .2) (outer .loop .inv .2) (at-hand (c .before)) (c .if2 .taken)
-
-mul-if3 : tie.Need-mul-if3 Inv-loop μ-loop
-mul-if3 c = search needs
-
-shared-slice-read-if3 : tie.Need-shared-slice-read-if3 Inv-loop μ-loop
-shared-slice-read-if3 c = search needs
-
-add-if4 : tie.Need-add-if4 Inv-loop μ-loop
-add-if4 c = search needs
-
-mul-if4 : tie.Need-mul-if4 Inv-loop μ-loop
-mul-if4 c = search needs
-
-shared-slice-read-if4 : tie.Need-shared-slice-read-if4 Inv-loop μ-loop
-shared-slice-read-if4 c = search needs
-
-add-if4-2 : tie.Need-add-if4-2 Inv-loop μ-loop
-add-if4-2 c = search needs
-
-mul-if4-2 : tie.Need-mul-if4-2 Inv-loop μ-loop
-mul-if4-2 c = search needs
-
-shared-slice-read-if4-2 : tie.Need-shared-slice-read-if4-2 Inv-loop μ-loop
-shared-slice-read-if4-2 c = search needs
-
-returns-2 : tie.Need-returns-2 Inv-loop μ-loop
-returns-2 c =
-    let match = c .before .before .before in
+    let match = c .before .before in
     let outer = match .before .before .before .before in
-    differs _ _ _ (outer .before .before .before .before .pre .0 .2) (outer .loop .inv .2) (at-hand match)
-    (λ first second. ⊎-elim (λ w. w .taken first) (λ w. eqb-false _ _ (not-true _ (w .3 .taken)) second) (c .if3 .came))
+    not-next _ _ _ (outer .before .before .before .before .pre .0 .2) (outer .loop .inv .2) _ (at-hand match) (sym (c .before .stands-next .ensures) ∙ not-true _ (c .if2 .taken))
 
 add-here : tie.Need-add-here Inv-loop μ-loop
 add-here c = search needs
@@ -130,15 +105,15 @@ loop-again c =
       met .1 .0,
       ⊎-elim
           (λ w.
-          let one-more = row-compared _ _ _ (s .pre .0 .2) before (rowAt (a .w .now) (a .start) (outer .loop .i)) (omega arith) (w .3 .left) (eqb-true _ _ (not-false _ (w .6 .left))) in
-          rw (w .7, row-kept (a .w .now) (a .start) (outer .loop .i) among (answer (c .before) ∙ w .0 .taken) (omega arith)) one-more)
+          let one-more = next-compared _ _ _ (s .pre .0 .2) before (a .start + 2 * outer .loop .i) (sym (w .1 .ensures) ∙ not-false _ (w .2 .left)) in
+          rw (w .3, row-kept (a .w .now) (a .start) (outer .loop .i) among (answer (c .before) ∙ w .0 .taken) (omega arith)) one-more)
           (λ w. rw (w .1, row-not-kept (a .w .now) (a .start) (outer .loop .i) among (omega arith) (answer (c .before) ∙ w .0 .left)) before)
           (c .if1 .came),
       λ j l h after in-rows. omega (arith, met .1 .1 j h, s .pre .0 .1 (outer .loop .i) l (omega arith) in-rows),
     )
 
-returns-3 : tie.Need-returns-3 Inv-loop μ-loop
-returns-3 c =
+returns-2 : tie.Need-returns-2 Inv-loop μ-loop
+returns-2 c =
     let start = c .before .before .before .before .before in
     let all : c .before .loop .i ≡ start .args .m = omega arith in
     verdict _ _ _ (start .pre .0 .2) (rw all at (c .before .loop .inv .2))
@@ -157,18 +132,10 @@ compare-walked-spec =
     mul-value
     shared-slice-read-value
     walk-to-requires
+    stands-next-requires
     returns
-    mul-if3
-    shared-slice-read-if3
-    add-if4
-    mul-if4
-    shared-slice-read-if4
-    add-if4-2
-    mul-if4-2
-    shared-slice-read-if4-2
-    returns-2
     add-here
     add-i
     loop-less
     loop-again
-    returns-3)
+    returns-2)
