@@ -4,7 +4,7 @@ ghost use mathlib.Core.Bool.{cond};
 ghost use lib.ListN.{length, take, drop};
 ghost use lib.Dec.{eqb};
 ghost use Rattle.model.specs.Lists.{all};
-ghost use Rattle.model.specs.Site.{rowTotal};
+ghost use Rattle.model.specs.Site.{mostPredicates, rowTotal};
 ghost use Rattle.model.specs.Tables.{semiJoin, kindCount, mostThreshold};
 ghost use Rattle.model.specs.Store.{kept, rowsIn, rowsStart, storedStart};
 ghost use Rattle.tables.specs.Columns.{kindOfColumns};
@@ -19,17 +19,20 @@ use columns::ranges::columns_apart;
 use columns::ranges::measure_columns;
 use partners::comparing::compare_partnered;
 use partners::counting::count_partnered;
+use partners::marks::should_mark;
 use tables::kinds::KINDS;
 use tables::kinds::is_stored;
 use tables::operands::Operands;
 use tables::operands::operands_of;
 use tables::operands::rows_start;
 
-// Where the `left` rows that a semi-join leaves end, if they stand at `here`, as their entry says by `start`, and end at `used` or before.
+// Where the `left` rows that a semi-join against q leaves end, if they stand at `here`, as their entry says by `start`, and end at `used` or before.
 fn stored_end(
     w: &[u32],
     objects: &[u32],
+    ranges: &[u32; 96],
     first: usize,
+    q: usize,
     o: Operands,
     start: usize,
     left: usize,
@@ -38,13 +41,15 @@ fn stored_end(
 ) -> Place
     requires { ⌜ Searchable (now w) (now objects) first (o .start) (o .rows) × Searchable (now w) (now objects) first (o .against) (o .partners) × (o .own < 2) × (o .other < 2) ⌝ }
     requires { ⌜ (o .other ≡ 1 → ObjectsSorted (now w) (now objects) first (o .against) (o .partners)) × (left ≤ o .rows) × (here ≤ used) × (used ≤ length (now w)) ⌝ }
+    requires { ⌜ q < mostPredicates ⌝ }
     ensures { λ r. ⌜ r ≡ cond (storedHolds (now (w .entry)) (semiJoin (kindOfColumns (o .own) (o .other)) (rowsIn (o .rows) (drop (o .start) (now (w .entry)))) (rowsIn (o .partners) (drop (o .against) (now (w .entry))))) start left here used) (At (here + 2 * left)) Wrong ⌝ }
 {
     let end = here + 2 * left;
     if start != here || used < end {
         return Place::Wrong;
     }
-    if compare_partnered(w, objects, first, o, here, left) {
+    let marked = should_mark(ranges, 6 * q + 3 * o.other, o.partners);
+    if compare_partnered(w, objects, first, o, marked, here, left) {
         return Place::At(end);
     }
     Place::Wrong
@@ -83,7 +88,7 @@ pub fn semi_join_end(
         return Place::At(here);
     }
     if is_stored(t, left, o.rows) {
-        return stored_end(w, objects, first, o, start, left, here, used);
+        return stored_end(w, objects, ranges, first, q, o, start, left, here, used);
     }
     if start != 0 || count_partnered(w, objects, first, ranges, p, q, o) != left {
         return Place::Wrong;

@@ -11,7 +11,6 @@ ghost use Rattle.columns.specs.Searching.{Searchable, ObjectsSorted};
 ghost use Rattle.columns.specs.Ranges.{hasValue};
 ghost use Rattle.partners.specs.Marks.{Marked};
 ghost use Rattle.partners.specs.StoredRows.{standsNext};
-use crate::marks::FEW;
 use crate::marks::mark_values;
 use crate::values::has_partner;
 use crate::walking::walk_to;
@@ -150,12 +149,13 @@ fn compare_marked(
     )
 }
 
-// The same, with marks of the partners' values where they are not few.
+// The same, with the partners' values marked or not.
 pub fn compare_partnered(
     w: &[u32],
     objects: &[u32],
     first: usize,
     o: Operands,
+    marked: bool,
     at: usize,
     k: usize,
 ) -> bool
@@ -163,7 +163,7 @@ pub fn compare_partnered(
     requires { ⌜ (at + 2 * k ≤ length (now w)) × (o .other ≡ 1 → ObjectsSorted (now w) (now objects) first (o .against) (o .partners)) ⌝ }
     ensures { λ r. ⌜ r ≡ sameWords (take (2 * k) (drop at (now (w .entry)))) (tableWords (semiJoin (kindOfColumns (o .own) (o .other)) (rowsIn (o .rows) (drop (o .start) (now (w .entry)))) (rowsIn (o .partners) (drop (o .against) (now (w .entry)))))) ⌝ }
 {
-    if o.partners < FEW {
+    if !marked {
         return compare_marked(w, objects, first, o, &[0u8; 1], at, k);
     }
     let mut marks = [0u8; 1024];

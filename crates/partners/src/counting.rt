@@ -9,8 +9,8 @@ ghost use Rattle.searching.specs.Search.{Ascending, hasWord};
 ghost use Rattle.columns.specs.Searching.{passing, Searchable, ObjectsSorted};
 ghost use Rattle.columns.specs.Ranges.{hasValue, ColumnRange};
 ghost use Rattle.partners.specs.Marks.{Marked};
-use crate::marks::FEW;
 use crate::marks::mark_values;
+use crate::marks::should_mark;
 use crate::walking::walk_to;
 use tables::operands::Operands;
 
@@ -68,7 +68,7 @@ fn count_values(
     count_common(own, base, stride, m, objects, copy, 1, n, marks)
 }
 
-// The same, with marks of the partners' values where they are not few.
+// The same, with the partners' values marked or not.
 fn count_marked(
     own: &[u32],
     base: usize,
@@ -77,12 +77,13 @@ fn count_marked(
     objects: &[u32],
     first: usize,
     o: Operands,
+    marked: bool,
 ) -> usize
     requires { ⌜ (0 < stride) × (base + stride * o .rows ≤ length (now own)) × Ascending (now own) base stride (o .rows) ⌝ }
     requires { ⌜ Searchable (now w) (now objects) first (o .against) (o .partners) × (o .other < 2) × (o .other ≡ 1 → ObjectsSorted (now w) (now objects) first (o .against) (o .partners)) ⌝ }
     ensures { λ r. ⌜ r ≡ passing (now (own .entry)) base stride (o .rows) (hasValue (now (w .entry)) (o .against) (o .partners) (o .other)) ⌝ }
 {
-    if o.partners < FEW {
+    if !marked {
         return count_values(own, base, stride, w, objects, first, o, &[0u8; 1]);
     }
     let mut marks = [0u8; 1024];
@@ -115,9 +116,10 @@ pub fn count_partnered(
     if ranges[b + 2] == 1 && partner_lowest <= lowest && highest <= partner_highest {
         return o.rows;
     }
+    let marked = should_mark(ranges, b, o.partners);
     if o.own == 0 {
-        return count_marked(w, o.start, 2, w, objects, first, o);
+        return count_marked(w, o.start, 2, w, objects, first, o, marked);
     }
     let copy = (o.start - first) / 2;
-    count_marked(objects, copy, 1, w, objects, first, o)
+    count_marked(objects, copy, 1, w, objects, first, o, marked)
 }

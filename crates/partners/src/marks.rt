@@ -4,8 +4,13 @@ ghost use lib.ListN.{length};
 ghost use Rattle.columns.specs.Ranges.{hasValue};
 ghost use Rattle.partners.specs.Marks.{markCount, isMarked, Marked};
 
-// To mark fewer values costs more than it saves.
-pub const FEW: usize = 16;
+// Whether n values of the column with the range at a place are marked: few are not, which would cost more than it saves, nor those
+// without gaps, of which a value is told by where it would stand.
+pub fn should_mark(ranges: &[u32; 96], column: usize, n: usize) -> bool
+    requires { ⌜ column + 3 ≤ 96 ⌝ }
+{
+    16 <= n && ranges[column + 2] == 0
+}
 
 // Marks the remainders of the values that the n rows at `start` have at a column.
 pub fn mark_values(w: &[u32], start: usize, n: usize, column: usize, marks: &mut [u8; 1024])

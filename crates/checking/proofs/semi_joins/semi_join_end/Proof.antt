@@ -237,7 +237,10 @@ stored-end-requires c κs =
     let o = e .before .before .before .before .before .before .before .before in
     let operands = o .operands-of .ensures .0 in (
       (rows-searchable o, partners-searchable o, operands .own-column, operands .partner-column),
-      (partners-sorted o (sym (e .before .columns-apart .ensures) ∙ e .if2 .left), omega (arith, e .before .before .before .before .if1 .left), start o .pre .0 .5, start o .pre .0 .6),
+      (
+        (partners-sorted o (sym (e .before .columns-apart .ensures) ∙ e .if2 .left), omega (arith, e .before .before .before .before .if1 .left), start o .pre .0 .5, start o .pre .0 .6),
+        omega (arith, few-predicates (start o .pre .0 .0)),
+      ),
     )
 
 returns-4 : tie.Need-returns-4

@@ -18,18 +18,41 @@ add-end c = search needs
 returns : tie.Need-returns
 returns c = stored-wrong _ _ _ _ _ _ (λ x. ⊎-elim (λ w. w .taken (x .begins)) (λ w. not-both (w .1 .taken) (le-ltb _ _ (x .room))) (c .if1 .came))
 
+mul-should-mark : tie.Need-mul-should-mark
+mul-should-mark c = search needs
+
+mul-should-mark-2 : tie.Need-mul-should-mark-2
+mul-should-mark-2 c = search needs
+
+add-should-mark : tie.Need-add-should-mark
+add-should-mark c = search needs
+
+should-mark-requires : tie.Need-should-mark-requires
+should-mark-requires c κs = search needs
+
 compare-partnered-requires : tie.Need-compare-partnered-requires
 compare-partnered-requires c κs =
-    let pre = c .before .before .before .before .pre in
-    (pre .0, (le-trans (ltb-false _ _ (c .if2 .left)) (pre .1 .3), pre .1 .0))
+    let pre = c .before .before .before .before .before .before .pre in
+    (pre .0, (le-trans (ltb-false _ _ (c .before .before .if2 .left)) (pre .1 .0 .3), pre .1 .0 .0))
 
 returns-2 : tie.Need-returns-2
 returns-2 c = stored-at _ _ _ _ _ _
-    (record { begins = c .before .before .before .if1 .left; room = ltb-false _ _ (c .before .before .if2 .left); same = sym (c .before .compare-partnered .ensures) ∙ c .if3 .taken })
+    (record { begins = c .before .before .before .before .before .if1 .left; room = ltb-false _ _ (c .before .before .before .before .if2 .left); same = sym (c .before .compare-partnered .ensures) ∙ c .if3 .taken })
 
 returns-3 : tie.Need-returns-3
 returns-3 c = stored-wrong _ _ _ _ _ _ (λ x. not-both (x .same) (sym (c .before .compare-partnered .ensures) ∙ c .if3 .left))
 
 pub stored-end-spec : {M : Type 1} → statement M
 stored-end-spec =
-    tie.close (tie.spec mul-end add-end returns compare-partnered-requires returns-2 returns-3)
+    tie.close
+    (tie.spec
+    mul-end
+    add-end
+    returns
+    mul-should-mark
+    mul-should-mark-2
+    add-should-mark
+    should-mark-requires
+    compare-partnered-requires
+    returns-2
+    returns-3)

@@ -1,4 +1,4 @@
--- Few values are not marked, the others are.
+-- The values are not marked, or they are.
 use mathlib.Core.Path.{refl}
 use borrow.Author.Needs.{needs}
 use Rattle.partners.proofs.Marking.{few-marked}
@@ -10,7 +10,7 @@ slice-aggregate-compare-marked c = search needs
 
 compare-marked-requires : tie.Need-compare-marked-requires
 compare-marked-requires c κs =
-    let pre = c .before .before .before .before .before .pre in
+    let pre = c .before .before .before .before .pre in
     (pre .0, (few-marked _ refl, pre .1))
 
 returns : tie.Need-returns

@@ -77,12 +77,15 @@ returns c =
     sym (all-left (a .w .now) (a .ranges .now) (6 * a .p + 3 * o .own) (6 * a .q + 3 * o .other) (o .start) (o .rows) (o .own) (o .against) (o .partners) (o .other) (s .pre .0 .1) (s .pre .0 .0 .inside)
     (s .pre .1 .1 .2) (s .pre .1 .1 .3) (c .before .before .if1 .taken) (leb-true _ _ (c .before .if2 .taken)) (leb-true _ _ (c .if3 .taken)) (o .rows) (le-refl _))
 
+should-mark-requires : tie.Need-should-mark-requires
+should-mark-requires c κs = search needs
+
 count-marked-requires : tie.Need-count-marked-requires
 count-marked-requires c κs = search needs
 
 returns-2 : tie.Need-returns-2
 returns-2 c =
-    let s = c .before .before .before .before .before .before .before .before .before .before .before .before .before in
+    let s = c .before .before .before .before .before .before .before .before .before .before .before .before .before .before in
     let a = s .args in
     let o = a .o in
     rw (c .before .if4 .taken) (c .count-marked .ensures ∙ rows-left 0 (a .w .now) (o .against) (o .partners) (o .other) (same-subjects _ _ _ (s .pre .0 .0 .inside)))
@@ -92,12 +95,12 @@ sub-copy c = search needs
 
 count-marked-requires-2 : tie.Need-count-marked-requires-2
 count-marked-requires-2 c κs =
-    let pre = c .before .before .before .before .before .before .before .before .before .before .before .before .before .pre in
+    let pre = c .before .before .before .before .before .before .before .before .before .before .before .before .before .before .pre in
     ((omega arith, omega (arith, pre .0 .0 .copied), pre .0 .2 (omega (arith, pre .0 .1, c .before .if4 .left)) .objects-ascend), pre .1 .0)
 
 returns-3 : tie.Need-returns-3
 returns-3 c =
-    let s = c .before .before .before .before .before .before .before .before .before .before .before .before .before .before in
+    let s = c .before .before .before .before .before .before .before .before .before .before .before .before .before .before .before in
     let a = s .args in
     let o = a .o in
     let object : o .own ≡ 1 = omega (arith, s .pre .0 .1, c .before .before .if4 .left) in
@@ -127,6 +130,7 @@ count-partnered-spec =
     mul-if1
     element-copy-out-if1
     returns
+    should-mark-requires
     count-marked-requires
     returns-2
     sub-copy
