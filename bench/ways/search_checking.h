@@ -77,12 +77,13 @@ static void copy_objects(const uint32_t *store, size_t count, struct sorted *sor
     }
 }
 
-/* A value whose remainder is not marked is none of the values marked. Few values are not marked, and then all count as such. */
+/* A value whose remainder is not marked is none of the values marked. Few values, or those without gaps, are not marked, and then all count
+ * as such. */
 enum { MARKS = 1024, FEW = 16 };
 struct marks { bool kept; uint8_t mark[MARKS]; };
 
-static void mark_values(struct marks *marks, const uint32_t *values, size_t n) {
-    marks->kept = n >= FEW;
+static void mark_values(struct marks *marks, const uint32_t *values, size_t n, const struct range *range) {
+    marks->kept = n >= FEW && !range->whole;
     if (!marks->kept) return;
     memset(marks->mark, 0, sizeof marks->mark);
     for (size_t i = 0; i < n; i++) marks->mark[values[2 * i] % MARKS] = 1;
@@ -124,7 +125,7 @@ static bool compare_partnered(const uint32_t *rows, size_t m, size_t own, struct
 static uint32_t count_partnered(struct column own, struct column partners, const uint32_t *values, const struct range *a, const struct range *b) {
     struct marks marks;
     if (b->whole && b->lowest <= a->lowest && a->highest <= b->highest) return (uint32_t)own.n;
-    mark_values(&marks, values, partners.n);
+    mark_values(&marks, values, partners.n, b);
     return count_common(own, partners, &marks);
 }
 
@@ -141,7 +142,7 @@ static size_t semi_join_end(const uint32_t *store, const struct sorted *sorted, 
     if (is_stored(store[1], entry[0], (uint32_t)m)) {
         struct marks marks;
         if (entry[1] != here || end > used) return 0;
-        mark_values(&marks, values, partners.n);
+        mark_values(&marks, values, partners.n, b);
         return compare_partnered(rows, m, own, partners, &marks, store + here, store + end) ? end : 0;
     }
     return entry[1] == 0 && count_partnered(column_of(store, sorted->objects, count, p, own), partners, values, a, b) == entry[0] ? here : 0;
