@@ -1,0 +1,98 @@
+/* Large sites, where question 10 marks, walks and searches: up to 1,024 rows in up to 16 tables, terms at random out of few or many, and in
+ * each store one word after another damaged. The build is compared with the reference word for word, and of each store whether a plan is
+ * made, which one, or with which number it is refused. Seeded: every run is the same. */
+#include "closing.h"
+#include "reference.h"
+
+#include <stdio.h>
+#include <stdlib.h>
+#include <string.h>
+
+enum { SITES = 120, DAMAGES = 6, MOST_ROWS = 1024, MOST_PREDICATES = 16 };
+
+struct row { uint32_t subject, object; };
+
+static uint8_t site[8192];
+static size_t site_bytes;
+static struct row rows[MOST_PREDICATES][MOST_ROWS];
+static size_t count[MOST_PREDICATES];
+static uint32_t store[CLOSING_STORE_WORDS], expected[CLOSING_STORE_WORDS];
+static uint64_t state = 1;
+
+static uint32_t random_below(uint32_t limit) {
+    state = state * 6364136223846793005u + 1442695040888963407u;
+    return (uint32_t)(state >> 33) % limit;
+}
+
+static void put_number(uint32_t value) {
+    for (; value >= 128; value >>= 7)
+        site[site_bytes++] = (uint8_t)(value | 128);
+    site[site_bytes++] = (uint8_t)value;
+}
+
+static int compare_rows(const void *a, const void *b) {
+    const struct row *r = a, *q = b;
+    if (r->subject != q->subject) return r->subject < q->subject ? -1 : 1;
+    return (r->object > q->object) - (r->object < q->object);
+}
+
+/* So many rows at random, ascending, each once. */
+static size_t make_rows(struct row *row, size_t most, uint32_t terms) {
+    size_t kept = 0;
+    for (size_t i = 0; i < most; i++)
+        row[i] = (struct row){random_below(terms), random_below(terms)};
+    qsort(row, most, sizeof *row, compare_rows);
+    for (size_t i = 0; i < most; i++)
+        if (kept == 0 || compare_rows(&row[kept - 1], &row[i]) != 0) row[kept++] = row[i];
+    return kept;
+}
+
+static void make_site(uint32_t predicates, uint32_t terms) {
+    site_bytes = 0;
+    put_number(predicates);
+    for (uint32_t p = 0; p < predicates; p++) {
+        count[p] = make_rows(rows[p], random_below(MOST_ROWS / predicates + 1), terms);
+        put_number(p + 1);
+        put_number((uint32_t)count[p]);
+    }
+    for (uint32_t p = 0; p < predicates; p++)
+        for (size_t i = 0; i < count[p]; i++) {
+            put_number(rows[p][i].subject);
+            put_number(rows[p][i].object);
+        }
+}
+
+/* A plan of two triple patterns, ?0 p ?1 and ?1 q ?2; the number returned, or -1 where the engine and the reference disagree. */
+static int planned(size_t used, uint32_t p, uint32_t q) {
+    const uint8_t check[] = {2, 1, (uint8_t)(2 * p), 3, 3, (uint8_t)(2 * q), 5};
+    uint8_t plan[16] = {0}, other[16] = {0};
+    uint64_t answer[4] = {0}, wanted[4] = {0};
+    const uint32_t number = closing_plan(store, used, check, sizeof check, plan, answer);
+    if (number != reference_plan(store, used, check, sizeof check, other, wanted)) return -1;
+    return memcmp(plan, other, sizeof plan) == 0 && memcmp(answer, wanted, sizeof answer) == 0 ? (int)number : -1;
+}
+
+int main(void) {
+    static const uint32_t terms[] = {20, 100, 300, 1000, 5000, 65536};
+    uint64_t answer[4], wanted[4];
+    long made = 0, refused = 0;
+    for (uint32_t n = 0; n < SITES; n++) {
+        const uint32_t predicates = 1 + random_below(MOST_PREDICATES), t = n % 3 == 0 ? random_below(1001) : 1000;
+        make_site(predicates, terms[n % 6]);
+        if (closing_build(t, site, site_bytes, store, CLOSING_STORE_WORDS, answer) != 0) return 1;
+        if (reference_build(t, site, site_bytes, expected, CLOSING_STORE_WORDS, wanted) != 0) return 1;
+        const size_t used = (size_t)answer[1];
+        if (answer[1] != wanted[1] || memcmp(store, expected, used * sizeof *store) != 0) return printf("site %u: another store\n", (unsigned)n), 1;
+        for (int damage = 0; damage <= DAMAGES; damage++) {
+            const size_t at = random_below((uint32_t)used);
+            const uint32_t kept = store[at];
+            if (damage > 0) store[at] = damage % 2 == 0 ? kept + 1 : random_below(70000);
+            const int number = planned(used, 1 + random_below(predicates), 1 + random_below(predicates));
+            if (number < 0) return printf("site %u, word %u: the plans differ\n", (unsigned)n, (unsigned)at), 1;
+            *(number == 0 ? &made : &refused) += 1;
+            store[at] = kept;
+        }
+    }
+    printf("%d large sites: %ld plans and %ld refusals are the reference's\n", SITES, made, refused);
+    return made < SITES || refused < SITES;
+}
