@@ -164,6 +164,7 @@ pub fn compare_partnered(
     ensures { λ r. ⌜ r ≡ sameWords (take (2 * k) (drop at (now (w .entry)))) (tableWords (semiJoin (kindOfColumns (o .own) (o .other)) (rowsIn (o .rows) (drop (o .start) (now (w .entry)))) (rowsIn (o .partners) (drop (o .against) (now (w .entry)))))) ⌝ }
 {
     if !marked {
+        // Fewer marks than remainders: none are kept.
         return compare_marked(w, objects, first, o, &[0u8; 1], at, k);
     }
     let mut marks = [0u8; 1024];

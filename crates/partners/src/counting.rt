@@ -84,6 +84,7 @@ fn count_marked(
     ensures { λ r. ⌜ r ≡ passing (now (own .entry)) base stride (o .rows) (hasValue (now (w .entry)) (o .against) (o .partners) (o .other)) ⌝ }
 {
     if !marked {
+        // Fewer marks than remainders: none are kept.
         return count_values(own, base, stride, w, objects, first, o, &[0u8; 1]);
     }
     let mut marks = [0u8; 1024];

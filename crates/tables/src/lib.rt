@@ -1,4 +1,4 @@
-// Numbers in bytes, and rows and semi-joins in words.
+// Numbers in bytes, and rows and the operands of semi-joins in words.
 pub mod copying;
 pub mod kinds;
 pub mod limits;
