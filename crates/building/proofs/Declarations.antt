@@ -4,21 +4,21 @@ use native.Mathlib.Nat.{mul-le-mul}
 use native.Mathlib.Omega.{arith}
 use mathlib.Core.Path.{_≡_, refl, sym, ap, _∙_}
 use mathlib.Core.Bool.{true, false}
-use mathlib.Core.List.{List, [], _∷_, _++_, map}
+use mathlib.Core.List.{List, [], _∷_, _++_}
 use lib.ListN.{length, drop, length-map, drop-of-length-le}
 use lib.Seq.{sets, drop-cons, take-at, take-append-seam}
 use borrow.Author.Tests.{le-leb}
 use Rattle.model.specs.Lists.{sum, isEmpty}
 use Rattle.model.specs.Reader.{Reply, gives, repeated, allRead}
 use Rattle.model.specs.Site.{Site, mostPredicates, mostRows, rowTotal}
-use Rattle.model.specs.SiteFile.{Declaration, declaration, tables, readSite, declarationOf}
-use Rattle.model.specs.Store.{rowsStart, vpWords}
+use Rattle.model.specs.SiteFile.{Declaration, declaration, tables, readSite, declarationOf, declarations}
+use Rattle.model.specs.Store.{rowsStart, vpWords, vpEntries}
 use Rattle.model.proofs.SiteFile.{sum-map, all-tables-read}
 use Rattle.model.proofs.StoreLayout.{length-all}
 use Rattle.model.proofs.Blocks.{Block, drop-block}
-use Rattle.tables.proofs.Setting.{part-sets, sets-block}
-use Rattle.tables.specs.SiteWords.{declaredEntries, declaredIn, declaredRows, ImageHolds}
-use Rattle.tables.proofs.Declared.{length-declaredIn, declared-vp}
+use Rattle.model.proofs.Setting.{part-sets, sets-block}
+use Rattle.tables.specs.SiteWords.{declaredIn, declaredRows, ImageHolds}
+use Rattle.tables.proofs.Declared.{length-declaredIn}
 use Rattle.tables.specs.NumberAt.{numberAt}
 use Rattle.building.specs.Image.{imageWords, TakenAs, DeclaredIn, SiteReadAs}
 use Rattle.tables.specs.declared.number.Number.the-variants.{Value}
@@ -30,12 +30,12 @@ use Rattle.building.proofs.Writing.{length-declared}
 
 -- ---- the declarations of entries
 
-declared-back : (here : ℕ) (ds : List Declaration) (rest : List ℕ) → declaredIn (length ds) (declaredEntries here ds ++ rest) ≡ ds
+declared-back : (here : ℕ) (ds : List Declaration) (rest : List ℕ) → declaredIn (length ds) (vpEntries here ds ++ rest) ≡ ds
 declared-back here [] rest = refl
 declared-back here (d ∷ ds) rest = ap (λ (more : List Declaration). d ∷ more) (declared-back (here + 2 * d .1) ds rest)
 
 -- the declarations of a site are as many as its tables
-site-size : (count : ℕ) (entries : List ℕ) (site : Site) → map declarationOf site ≡ declaredIn count entries → length site ≡ count
+site-size : (count : ℕ) (entries : List ℕ) (site : Site) → declarations site ≡ declaredIn count entries → length site ≡ count
 site-size count entries site same = sym (length-map site declarationOf) ∙ ap length same ∙ length-declaredIn count entries
 
 -- ---- an image of count predicates
@@ -46,14 +46,14 @@ rows-room count few = omega (arith, mul-le-mul few few)
 
 module _ (count : ℕ) (image : List ℕ) (few : count ≤ mostPredicates) (room : imageWords ≤ length image) where
   -- the entries of declarations are written
-  module _ (ds : List Declaration) (size : length ds ≡ count) (after : List ℕ) (written : after ≡ sets image 3 (declaredEntries (rowsStart count) ds)) where
-    block : Block after 3 (declaredEntries (rowsStart count) ds)
-    block = rw written (sets-block image 3 (declaredEntries (rowsStart count) ds) (omega (arith, length-declared (rowsStart count) ds, rows-room count few)))
+  module _ (ds : List Declaration) (size : length ds ≡ count) (after : List ℕ) (written : after ≡ sets image 3 (vpEntries (rowsStart count) ds)) where
+    block : Block after 3 (vpEntries (rowsStart count) ds)
+    block = rw written (sets-block image 3 (vpEntries (rowsStart count) ds) (omega (arith, length-declared (rowsStart count) ds, rows-room count few)))
 
     written-declared : declaredIn count (drop 3 after) ≡ ds
     written-declared =
         ap (declaredIn count) (drop-block block)
-        ∙ ap (λ (k : ℕ). declaredIn k (declaredEntries (rowsStart count) ds ++ block .after)) (sym size)
+        ∙ ap (λ (k : ℕ). declaredIn k (vpEntries (rowsStart count) ds ++ block .after)) (sym size)
         ∙ declared-back (rowsStart count) ds (block .after)
 
     written-in : sum (λ d. d .1) ds ≤ mostRows → DeclaredIn count after
@@ -63,7 +63,7 @@ module _ (count : ℕ) (image : List ℕ) (few : count ≤ mostPredicates) (room
     }
 
   -- the rows of a site are written, behind its entries
-  module _ (declared : DeclaredIn count image) (site : Site) (same : map declarationOf site ≡ declaredIn count (drop 3 image)) where
+  module _ (declared : DeclaredIn count image) (site : Site) (same : declarations site ≡ declaredIn count (drop 3 image)) where
     site-held : (after : List ℕ) → after ≡ sets image (rowsStart count) (vpWords site) → ImageHolds site after
     site-held after e =
         let size = site-size count (drop 3 image) site same in
@@ -73,8 +73,7 @@ module _ (count : ℕ) (image : List ℕ) (few : count ≤ mostPredicates) (room
           entries = rw (e, size)
               (part-sets image (rowsStart count) (vpWords site) 3 (3 * count) (omega arith)
               ∙ declared .entries
-              ∙ ap (declaredEntries (rowsStart count)) (sym same)
-              ∙ declared-vp (rowsStart count) site);
+              ∙ ap (vpEntries (rowsStart count)) (sym same));
           rows = rw (e, size, drop-block (sets-block image (rowsStart count) (vpWords site) fits)) (take-append-seam _ _);
         }
 
@@ -82,7 +81,7 @@ module _ (count : ℕ) (image : List ℕ) (few : count ≤ mostPredicates) (room
 
 module _ (s : List ℕ) (at count : ℕ) (image : List ℕ) (few : count ≤ mostPredicates) (room : imageWords ≤ length image) (after : List ℕ) where
   abbrev EntriesWritten : List Declaration → Type 0
-  EntriesWritten ds = after ≡ sets image 3 (declaredEntries (rowsStart count) ds)
+  EntriesWritten ds = after ≡ sets image 3 (vpEntries (rowsStart count) ds)
 
   module _ {r : Taken} (taken : TakenAs (repeated declaration count [] (drop at s)) EntriesWritten s r) {next : ℕ} (e : r ≡ At next) where
     declared : (ds : List Declaration) × (repeated declaration count [] (drop at s) ≡ gives (ds, drop next s)) × EntriesWritten ds

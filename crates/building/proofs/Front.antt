@@ -6,15 +6,16 @@ use mathlib.Core.Path.{_≡_, sym, ap, _∙_, subst}
 use mathlib.Core.List.{List, [], _∷_, _++_}
 use lib.ListN.{length, getD, take, length-append}
 use lib.Seq.{sets, length-sets}
+use Rattle.model.specs.SiteFile.{declarations}
 use Rattle.model.specs.Site.{Table, Site, rowTotal}
 use Rattle.model.specs.Tables.{kindCount}
-use Rattle.model.specs.Store.{semiJoins, rowsStart, vpEntries, semiJoinEntries, storedStart, vpWords, keptWords, layout}
+use Rattle.model.specs.Store.{semiJoins, rowsStart, vpEntries, semiJoinEntries, storedStart, vpWords, storedWords, layout, vpEntryAt}
 use Rattle.model.specs.Calls.{over}
 use Rattle.model.proofs.Blocks.{Block, block-at, take-block, getD-block, joined-block}
-use Rattle.model.proofs.StoreLayout.{length-vp-entries, length-semi-join-entries, front, length-before-kept, length-layout, layout-parts}
+use Rattle.model.proofs.StoreLayout.{length-vp-entries, length-semi-join-entries, front, length-before-stored, length-layout, layout-parts}
 use Rattle.model.proofs.StoreSize.{store-fits}
 use Rattle.tables.specs.SiteWords.{siteIn, ImageHolds, ImageOf, CountsIn}
-use Rattle.tables.proofs.Setting.{sets-append, drop-sets, sets-block, part-block, sets-over}
+use Rattle.model.proofs.Setting.{sets-append, drop-sets, sets-block, part-block, sets-over}
 use Rattle.tables.proofs.Images.{entries-inside}
 use Rattle.building.proofs.Filling.{image-fronted, counts-fronted}
 
@@ -22,8 +23,7 @@ use Rattle.building.proofs.Filling.{image-fronted, counts-fronted}
 
 -- the last entry's rows end where all rows end
 last-end : (here : ℕ) (t : Table) (ts : Site)
-    → getD (vpEntries here (t ∷ ts)) (3 * length ts + 2) 0 + 2 * getD (vpEntries here (t ∷ ts)) (3 * length ts + 1) 0 ≡ here + 2 * rowTotal (t ∷ ts)
-unfolding vpEntries
+    → getD (vpEntries here (declarations (t ∷ ts))) (3 * length ts + 2) 0 + 2 * getD (vpEntries here (declarations (t ∷ ts))) (3 * length ts + 1) 0 ≡ here + 2 * rowTotal (t ∷ ts)
 last-end here t [] = omega arith
 last-end here t (u ∷ us) =
     let start : 3 * suc (length us) + 2 ≡ suc (suc (suc (3 * length us + 2))) = omega arith in
@@ -35,7 +35,7 @@ pub last-entry : {count : ℕ} {image : List ℕ} → ImageOf count image → (c
 last-entry {count} {image} o some =
     go (siteIn count image) (o .predicates) (part-block image 3 (3 * length (siteIn count image)) (omega (arith, o .long)) (o .holds .entries))
   where
-    go : (site : Site) → length site ≡ count → Block image 3 (vpEntries (rowsStart (length site)) site)
+    go : (site : Site) → length site ≡ count → Block image 3 (vpEntries (rowsStart (length site)) (declarations site))
         → getD image (3 * count + 2) 0 + 2 * getD image (3 * count + 1) 0 ≡ storedStart site
     go [] e b = absurd (some (sym e))
     go (t ∷ ts) e b =
@@ -54,16 +54,16 @@ used-limit o t = omega (arith, store-fits t _ (o .proper))
 
 -- the four parts are the front
 front-words : (t : ℕ) (site : Site) {image : List ℕ} → Block image 0 (length site ∷ t ∷ length (layout t site) ∷ [])
-    → Block image 3 (vpEntries (rowsStart (length site)) site)
-    → Block image (3 + 3 * length site) (semiJoinEntries t (storedStart site) (semiJoins site)) → Block image (rowsStart (length site)) (vpWords site)
+    → Block image 3 (vpEntries (rowsStart (length site)) (declarations site))
+    → Block image (vpEntryAt (length site)) (semiJoinEntries t (storedStart site) (semiJoins site)) → Block image (rowsStart (length site)) (vpWords site)
     → take (storedStart site) image ≡ front t site ++ vpWords site
 front-words t site {image} first entries joins rows =
-    let vp = vpEntries (rowsStart (length site)) site in
+    let vp = vpEntries (rowsStart (length site)) (declarations site) in
     let length-vp = length-vp-entries (rowsStart (length site)) site in
     let length-joins = length-semi-join-entries t (storedStart site) site in
     let length-both = length-append vp (semiJoinEntries t (storedStart site) (semiJoins site)) in
     let behind = joined-block (joined-block entries (block-at (omega arith) joins)) (block-at (omega arith) rows) in
-    ap (λ (n : ℕ). take n image) (sym (length-before-kept t site)) ∙ take-block (joined-block (rw (length-layout t site) at first) behind)
+    ap (λ (n : ℕ). take n image) (sym (length-before-stored t site)) ∙ take-block (joined-block (rw (length-layout t site) at first) behind)
 
 -- an image of the site, with all words before the stored tables' rows
 pub record FrontIn (t count : ℕ) (site : Site) (image : List ℕ) : Type 0 where
@@ -83,7 +83,7 @@ module _ (t : ℕ) {count : ℕ} {image : List ℕ} (o : ImageOf count image) wh
   first = count ∷ t ∷ length (layout t site) ∷ []
 
   abbrev entered : List ℕ
-  entered = sets image (3 + 3 * count) joins
+  entered = sets image (vpEntryAt count) joins
 
   -- the image with the entries of the semi-joins, and the first three words
   abbrev fronted : List ℕ
@@ -93,14 +93,14 @@ module _ (t : ℕ) {count : ℕ} {image : List ℕ} (o : ImageOf count image) wh
   fronted-image = image-fronted o t (storedStart site) first (omega arith)
 
   first-block : Block fronted 0 first
-  first-block = sets-block entered 0 first (omega (arith, entries-inside o, length-sets image (3 + 3 * count) joins))
+  first-block = sets-block entered 0 first (omega (arith, entries-inside o, length-sets image (vpEntryAt count) joins))
 
-  joins-block : Block fronted (3 + 3 * count) joins
+  joins-block : Block fronted (vpEntryAt count) joins
   joins-block =
       let long = length-semi-join-entries t (storedStart site) site ∙ ap (λ (k : ℕ). 2 * (k * (k * kindCount))) (o .predicates) in
-      part-block fronted (3 + 3 * count) (length joins) (omega (arith, entries-inside (fronted-image .0)))
-      (ap (take (length joins)) (drop-sets entered 0 first (3 + 3 * count) (omega arith))
-      ∙ take-block (sets-block image (3 + 3 * count) joins (omega (arith, entries-inside o))))
+      part-block fronted (vpEntryAt count) (length joins) (omega (arith, entries-inside (fronted-image .0)))
+      (ap (take (length joins)) (drop-sets entered 0 first (vpEntryAt count) (omega arith))
+      ∙ take-block (sets-block image (vpEntryAt count) joins (omega (arith, entries-inside o))))
 
   fronted-words : take (storedStart site) fronted ≡ front t site ++ vpWords site
   fronted-words =
@@ -125,11 +125,11 @@ module _ (t : ℕ) {count : ℕ} {image : List ℕ} (o : ImageOf count image) wh
 
 -- the front, and the stored tables' rows behind it
 pub store-over : (t : ℕ) (site : Site) (memory : List ℕ) → length (layout t site) ≤ length memory
-    → sets (sets memory 0 (front t site ++ vpWords site)) (storedStart site) (keptWords t (semiJoins site)) ≡ over (layout t site) memory
+    → sets (sets memory 0 (front t site ++ vpWords site)) (storedStart site) (storedWords t (semiJoins site)) ≡ over (layout t site) memory
 store-over t site memory h =
     let words = front t site ++ vpWords site in
-    let rest = keptWords t (semiJoins site) in
-    let here : storedStart site ≡ 0 + length words = sym (zero-add (length words) ∙ length-before-kept t site) in
+    let rest = storedWords t (semiJoins site) in
+    let here : storedStart site ≡ 0 + length words = sym (zero-add (length words) ∙ length-before-stored t site) in
     ap (λ (n : ℕ). sets (sets memory 0 words) n rest) here
     ∙ sym (sets-append memory 0 words rest)
     ∙ ap (sets memory 0) (sym (layout-parts t site))

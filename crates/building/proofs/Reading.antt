@@ -1,5 +1,5 @@
 -- The site's reader as the code runs it: the tables read so far, and each way out of a row and of a declaration.
-use Prim.Native.Nat.{ℕ, suc, _+_, _-_, _*_, _<_, _≤_}
+use Prim.Native.Nat.{ℕ, suc, _+_, _-_, _<_, _≤_}
 use native.Mathlib.Omega.{arith}
 use mathlib.Core.Path.{_≡_, refl, sym, ap, _∙_}
 use mathlib.Core.Bool.{true, false}
@@ -8,6 +8,7 @@ use mathlib.Core.List.{List, [], _∷_, _++_, map}
 use lib.ListN.{length, getD, drop}
 use lib.Seq.{drop-drop, getD-drop}
 use lib.Dec.{ltb, leb}
+use Rattle.model.specs.Store.{vpEntryAt}
 use Rattle.model.specs.Lists.{sum, aboveLast}
 use Rattle.model.specs.Reader.{Reply, refused, gives, after, ask, repeated, wholeFile, allRead}
 use Rattle.model.specs.Numbers.{isTerm}
@@ -116,8 +117,8 @@ module _ (image : List ℕ) (count : ℕ) (bytes : List ℕ) where
   pub record TablesRead (i : ℕ) (done : Site) (rest : List ℕ) : Type 0 where
     pub left : ℕ
     pub all : i + left ≡ count
-    pub same : tables (declaredIn count (drop 3 image)) [] bytes ≡ tables (declaredIn left (drop (3 + 3 * i) image)) done rest
-    pub rows : rowTotal done + declaredRows left (drop (3 + 3 * i) image) ≡ declaredRows count (drop 3 image)
+    pub same : tables (declaredIn count (drop 3 image)) [] bytes ≡ tables (declaredIn left (drop (vpEntryAt i) image)) done rest
+    pub rows : rowTotal done + declaredRows left (drop (vpEntryAt i) image) ≡ declaredRows count (drop 3 image)
 
   pub no-table-read : TablesRead 0 [] bytes
   no-table-read = record { left = count; all = omega arith; same = refl; rows = omega arith }
@@ -129,14 +130,14 @@ module _ (image : List ℕ) (count : ℕ) (bytes : List ℕ) where
 
     -- the entry of the next table
     abbrev entry : List ℕ
-    entry = drop (3 + 3 * i) image
+    entry = drop (vpEntryAt i) image
 
-    module _ (more : i < count) {n : ℕ} (known : n ≡ getD image (3 + 3 * i + 1) 0) where
+    module _ (more : i < count) {n : ℕ} (known : n ≡ getD image (vpEntryAt i + 1) 0) where
       table-left : part .left ≡ suc (part .left - 1)
       table-left = omega arith
 
       entry-count : getD entry 1 0 ≡ n
-      entry-count = getD-drop (3 + 3 * i) image 1 0 ∙ sym known
+      entry-count = getD-drop (vpEntryAt i) image 1 0 ∙ sym known
 
       same-more : tables (declaredIn count (drop 3 image)) [] bytes ≡ tables (declaredIn (suc (part .left - 1)) entry) done rest
       same-more = rw table-left at (part .same)
@@ -155,8 +156,8 @@ module _ (image : List ℕ) (count : ℕ) (bytes : List ℕ) where
           → TablesRead (i + 1) (done ++ record { predicate = getD entry 0 0; rows = rows } ∷ []) rest′
       unfolding tables after
       table-read q =
-          let place : 3 + 3 * i + 3 ≡ 3 + 3 * (i + 1) = omega arith in
-          let next : drop 3 entry ≡ drop (3 + 3 * (i + 1)) image = drop-drop 3 (3 + 3 * i) image ∙ ap (λ (k : ℕ). drop k image) place in
+          let place : vpEntryAt i + 3 ≡ vpEntryAt (i + 1) = omega arith in
+          let next : drop 3 entry ≡ drop (vpEntryAt (i + 1)) image = drop-drop 3 (vpEntryAt i) image ∙ ap (λ (k : ℕ). drop k image) place in
           record {
             left = part .left - 1;
             all = omega arith;

@@ -9,25 +9,24 @@ use lib.Seq.{sets}
 use Rattle.model.specs.Lists.{sum}
 use Rattle.model.specs.Site.{Table, Site, rowTotal}
 use Rattle.model.specs.SiteFile.{Declaration}
-use Rattle.model.specs.Store.{tableWords, vpWords}
-use Rattle.model.proofs.Blocks.{each-append}
+use Rattle.model.specs.Store.{tableWords, vpWords, vpEntryAt, vpEntries}
+use Rattle.model.proofs.Blocks.{concatMap-append}
 use Rattle.model.proofs.StoreLayout.{length-all}
 use Rattle.tables.proofs.Declared.{declared-snoc}
-use Rattle.tables.proofs.Setting.{sets-append}
-use Rattle.tables.specs.SiteWords.{declaredEntries}
+use Rattle.model.proofs.Setting.{sets-append}
 
 -- ---- entries
 
-pub length-declared : (here : ℕ) (ds : List Declaration) → length (declaredEntries here ds) ≡ 3 * length ds
+pub length-declared : (here : ℕ) (ds : List Declaration) → length (vpEntries here ds) ≡ 3 * length ds
 length-declared here [] = refl
 length-declared here (d ∷ ds) = let e = length-declared (here + 2 * d .1) ds in omega arith
 
 -- an entry behind those of the declarations done
-pub declaration-written : (image₀ image : List ℕ) (here : ℕ) (done : List Declaration) (d : Declaration) → image ≡ sets image₀ 3 (declaredEntries here done)
-    → set (set (set image (3 + 3 * length done) (d .0)) (3 + 3 * length done + 1) (d .1)) (3 + 3 * length done + 2) (here + 2 * sum (λ d. d .1) done)
-    ≡ sets image₀ 3 (declaredEntries here (done ++ d ∷ []))
+pub declaration-written : (image₀ image : List ℕ) (here : ℕ) (done : List Declaration) (d : Declaration) → image ≡ sets image₀ 3 (vpEntries here done)
+    → set (set (set image (vpEntryAt (length done)) (d .0)) (vpEntryAt (length done) + 1) (d .1)) (vpEntryAt (length done) + 2) (here + 2 * sum (λ d. d .1) done)
+    ≡ sets image₀ 3 (vpEntries here (done ++ d ∷ []))
 declaration-written image₀ image here done d e =
-    rw (e, declared-snoc here done d, sets-append image₀ 3 (declaredEntries here done) (d .0 ∷ d .1 ∷ (here + 2 * sum (λ d. d .1) done) ∷ []), length-declared here done, add-one, add-two) refl
+    rw (e, declared-snoc here done d, sets-append image₀ 3 (vpEntries here done) (d .0 ∷ d .1 ∷ (here + 2 * sum (λ d. d .1) done) ∷ []), length-declared here done, add-one, add-two) refl
 
 -- ---- tables
 
@@ -35,4 +34,4 @@ declaration-written image₀ image here done d e =
 pub table-written : (image₀ image : List ℕ) (start to : ℕ) (done : Site) (t : Table) → image ≡ sets image₀ start (vpWords done) → to ≡ start + 2 * rowTotal done
     → sets image to (tableWords (t .rows)) ≡ sets image₀ start (vpWords (done ++ t ∷ []))
 table-written image₀ image start to done t e h =
-    rw (e, h, each-append (λ t. tableWords (t .rows)) done (t ∷ []), append-nil (tableWords (t .rows)), sets-append image₀ start (vpWords done) (tableWords (t .rows)), length-all (λ t. t .rows) done) refl
+    rw (e, h, concatMap-append (λ t. tableWords (t .rows)) done (t ∷ []), append-nil (tableWords (t .rows)), sets-append image₀ start (vpWords done) (tableWords (t .rows)), length-all (λ t. t .rows) done) refl

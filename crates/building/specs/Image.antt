@@ -5,8 +5,8 @@ use mathlib.Core.List.{List}
 use lib.ListN.{length, take, drop}
 use Rattle.model.specs.Reader.{Reply, refused, gives}
 use Rattle.model.specs.Site.{Site, mostPredicates, mostRows}
-use Rattle.model.specs.Store.{rowsStart}
-use Rattle.tables.specs.SiteWords.{declaredEntries, declaredIn, declaredRows, ImageHolds}
+use Rattle.model.specs.Store.{rowsStart, vpEntries}
+use Rattle.tables.specs.SiteWords.{declaredIn, declaredRows, ImageHolds}
 use Rattle.building.specs.declared.site_reader.Taken.{Taken}
 use Rattle.building.specs.declared.site_reader.Taken.the-variants.{At, Refused as TakenRefused}
 use Rattle.building.specs.declared.site_reader.SiteRead.{SiteRead}
@@ -18,7 +18,7 @@ imageWords = rowsStart mostPredicates + 2 * mostRows
 
 -- an image has k entries, for rows that fit
 pub record DeclaredIn (k : ℕ) (image : List ℕ) : Type 0 where
-  pub entries : take (3 * k) (drop 3 image) ≡ declaredEntries (rowsStart k) (declaredIn k (drop 3 image))
+  pub entries : take (3 * k) (drop 3 image) ≡ vpEntries (rowsStart k) (declaredIn k (drop 3 image))
   pub few : declaredRows k (drop 3 image) ≤ mostRows
 
 -- ---- what was read

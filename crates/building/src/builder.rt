@@ -1,9 +1,9 @@
 ghost use mathlib.Core.Path.{_≡_};
-ghost use Prim.Native.Nat.{_<_, _≤_, _+_, _*_};
+ghost use Prim.Native.Nat.{_≤_, _+_};
 ghost use lib.ListN.{length};
 ghost use lib.Seq.{sets};
 ghost use Rattle.model.specs.Tables.{mostThreshold};
-ghost use Rattle.model.specs.Store.{semiJoins, semiJoinEntries, storedStart, keptWords, layout};
+ghost use Rattle.model.specs.Store.{semiJoins, semiJoinEntries, storedStart, storedWords, layout, vpEntryAt};
 ghost use Rattle.model.specs.Calls.{outcome, filled, build as buildOutcome};
 ghost use Rattle.tables.specs.SiteWords.{siteIn, ImageOf, CountsIn};
 use crate::site_reader::IMAGE_WORDS;
@@ -15,9 +15,9 @@ use reducing::semi_join_write::write_semi_join;
 use tables::copying::copy_words;
 use tables::kinds::KINDS;
 use tables::kinds::is_stored;
+use tables::layout::rows_start;
 use tables::limits::MOST_THRESHOLD;
 use tables::operands::operands_at;
-use tables::operands::rows_start;
 
 // Where the stored tables' rows begin.
 fn stored_start(image: &[u32], count: usize) -> usize
@@ -37,7 +37,7 @@ fn stored_start(image: &[u32], count: usize) -> usize
 fn fill_entries(t: usize, count: usize, image: &mut [u32], first: usize) -> usize
     requires { ⌜ ImageOf count (now image) × (t ≤ mostThreshold) × (first ≡ storedStart (siteIn count (now image))) ⌝ }
     ensures { λ r. ⌜ r ≡ length (layout t (siteIn count (now (image .entry)))) ⌝ }
-    ensures { λ _. ⌜ now (image .exit) ≡ sets (now (image .entry)) (3 + 3 * count) (semiJoinEntries t first (semiJoins (siteIn count (now (image .entry))))) ⌝ }
+    ensures { λ _. ⌜ now (image .exit) ≡ sets (now (image .entry)) (vpEntryAt count) (semiJoinEntries t first (semiJoins (siteIn count (now (image .entry))))) ⌝ }
 {
     let mut here = first;
     for x in 0..count * (count * KINDS) {
@@ -59,8 +59,8 @@ fn fill_entries(t: usize, count: usize, image: &mut [u32], first: usize) -> usiz
 // The rows of the stored tables, from `first` on.
 fn write_stored(t: usize, count: usize, image: &[u32], store: &mut [u32], first: usize)
     requires { ⌜ ImageOf count (now image) × (t ≤ mostThreshold) × CountsIn count (now image) ⌝ }
-    requires { ⌜ first + length (keptWords t (semiJoins (siteIn count (now image)))) ≤ length (now store) ⌝ }
-    ensures { λ _. ⌜ now (store .exit) ≡ sets (now (store .entry)) first (keptWords t (semiJoins (siteIn count (now (image .entry))))) ⌝ }
+    requires { ⌜ first + length (storedWords t (semiJoins (siteIn count (now image)))) ≤ length (now store) ⌝ }
+    ensures { λ _. ⌜ now (store .exit) ≡ sets (now (store .entry)) first (storedWords t (semiJoins (siteIn count (now (image .entry))))) ⌝ }
 {
     let mut next = first;
     for x in 0..count * (count * KINDS) {

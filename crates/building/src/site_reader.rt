@@ -1,20 +1,20 @@
 ghost use mathlib.Core.Path.{_≡_};
-ghost use Prim.Native.Nat.{_<_, _≤_, _+_, _*_};
+ghost use Prim.Native.Nat.{_≤_, _+_, _*_};
 ghost use mathlib.Core.List.{[]};
 ghost use lib.ListN.{length, drop};
 ghost use lib.Seq.{sets};
 ghost use Rattle.model.specs.Reader.{repeated, allRead};
 ghost use Rattle.model.specs.Site.{mostPredicates, mostRows};
 ghost use Rattle.model.specs.SiteFile.{declaration, row, tables, readSite};
-ghost use Rattle.model.specs.Store.{rowsStart, tableWords, vpWords};
-ghost use Rattle.tables.specs.SiteWords.{declaredEntries, declaredIn, declaredRows};
+ghost use Rattle.model.specs.Store.{rowsStart, tableWords, vpWords, vpEntries};
+ghost use Rattle.tables.specs.SiteWords.{declaredIn, declaredRows};
 ghost use Rattle.building.specs.Image.{imageWords, TakenAs, DeclaredIn, SiteReadAs};
+use tables::layout::rows_start;
 use tables::limits::MOST_PREDICATES;
 use tables::limits::MOST_ROWS;
 use tables::limits::MOST_TERM;
 use tables::number::Number;
 use tables::number::read_number;
-use tables::operands::rows_start;
 use tables::row_order::row_before;
 
 // The words of an image: the front of a store, up to where the stored tables' rows would begin, for the largest site.
@@ -29,7 +29,7 @@ pub enum Taken {
 // The declarations of `count` predicates, as entries from the third word on.
 pub fn read_declarations(s: &[u8], at: usize, count: usize, image: &mut [u32]) -> Taken
     requires { ⌜ (count ≤ mostPredicates) × (imageWords ≤ length (now image)) ⌝ }
-    ensures { λ r. ⌜ TakenAs (repeated declaration count [] (drop at (now (s .entry)))) (λ ds. now (image .exit) ≡ sets (now (image .entry)) 3 (declaredEntries (rowsStart count) ds)) (now (s .entry)) r ⌝ }
+    ensures { λ r. ⌜ TakenAs (repeated declaration count [] (drop at (now (s .entry)))) (λ ds. now (image .exit) ≡ sets (now (image .entry)) 3 (vpEntries (rowsStart count) ds)) (now (s .entry)) r ⌝ }
 {
     let mut next = at;
     let mut total: usize = 0;

@@ -5,7 +5,7 @@ use mathlib.Core.Path.{_≡_, refl}
 use mathlib.Core.Logic.{inl, inr}
 use mathlib.Core.List.{List, _++_}
 use lib.ListN.{length, replicate, length-take, length-append, length-replicate}
-use Rattle.model.specs.Lists.{each}
+use Rattle.model.specs.Lists.{concatMap}
 use Rattle.model.specs.Pattern.{mostTriplePatterns}
 use Rattle.model.specs.PlanFile.{stepNumbers}
 use Rattle.model.specs.Planner.{planned}
@@ -29,7 +29,7 @@ plan-sized words bytes = go (demand-1-plan words bytes)
     go (inr x) =
         let c = x .0 in
         let accepted = pattern-accepted (c .store .site) bytes (c .pattern) (c .read) in
-        let steps = each stepNumbers (planned (c .store) (c .pattern)) in
+        let steps = concatMap stepNumbers (planned (c .store) (c .pattern)) in
         rw (x .1)
         (record {
           few = omega (arith, planned-length (c .store) (c .pattern), pattern-limit (c .store .site) (c .pattern) accepted);

@@ -3,12 +3,13 @@ use Prim.Native.Nat.{ℕ, zero, suc, _+_, _≤_, _<_}
 use native.Mathlib.Omega.{arith}
 use mathlib.Core.Path.{_≡_, refl, ap, _∙_}
 use mathlib.Core.Logic.{_⊎_, inl, inr, _≢_}
-use mathlib.Core.Bool.{Bool, true, false}
+use mathlib.Core.Bool.{Bool, true, false, _&&_, and-true}
 use mathlib.Core.List.{[], _∷_, _++_, map, List·Memᴰ·head, List·Memᴰ·tail, List·Memᴰ·not-nil, List·Memᴰ·cases-cons}
 use lib.ListN.{length, getD}
 use lib.Dec.{eqb, ltb}
 use borrow.Author.Tests.{eqb-true, eqb-false, lt-ltb}
-use Rattle.model.specs.Lists.{_∈_, ascends, countUp, below}
+use Rattle.model.specs.Lists.{_∈_, all, ascends, countUp, below}
+use Rattle.model.proofs.Membership.{all-append}
 use Rattle.model.proofs.Order.{ascends-cons}
 
 pub from-countUp : {i : ℕ} (a k : ℕ) → i ∈ countUp a k → (a ≤ i) × (i < a + k)
@@ -54,3 +55,6 @@ countUp-last a (suc k) = ap (λ l. a ∷ l) (countUp-last (suc a) k ∙ ap (λ n
 -- one number more
 pub below-last : (k : ℕ) → below (suc k) ≡ below k ++ k ∷ []
 below-last k = countUp-last 0 k ∙ ap (λ n. below k ++ n ∷ []) (omega arith)
+
+pub all-below-last : (p : ℕ → Bool) (k : ℕ) → all p (below (suc k)) ≡ (all p (below k) && p k)
+all-below-last p k = ap (all p) (below-last k) ∙ rw (all-append p (below k) (k ∷ []), and-true) refl

@@ -6,7 +6,7 @@ use mathlib.Core.Path.{_≡_, refl, sym, ap, _∙_}
 use mathlib.Core.List.{List, [], _∷_, _++_, append-assoc}
 use lib.ListN.{length, getD, take, drop, length-append, List·getD-append}
 use lib.Seq.{split-at, length-take-le, take-append-seam, drop-at, getD-drop, drop-append-seam, drop-drop}
-use Rattle.model.specs.Lists.{each}
+use Rattle.model.specs.Lists.{concatMap}
 
 module _ {A : Type 0} where
   pub record Block (list : List A) (place : ℕ) (block : List A) : Type 0 where
@@ -53,26 +53,26 @@ module _ {A : Type 0} where
   head-block {l} {b} {i} {x} y d = rw add-zero at (getD-block y 0 d (omega arith))
 
 module _ {A B : Type 0} (f : A → List B) where
-  pub each-append : (l m : List A) → each f (l ++ m) ≡ each f l ++ each f m
-  each-append [] m = refl
-  each-append (x ∷ xs) m = rw (each-append xs m) (sym (append-assoc (f x) (each f xs) (each f m)))
+  pub concatMap-append : (l m : List A) → concatMap f (l ++ m) ≡ concatMap f l ++ concatMap f m
+  concatMap-append [] m = refl
+  concatMap-append (x ∷ xs) m = rw (concatMap-append xs m) (sym (append-assoc (f x) (concatMap f xs) (concatMap f m)))
 
   -- what f gives for an element
-  pub each-block : {l : List A} {i : ℕ} {x : A} (b : Block l i (x ∷ [])) → Block (each f l) (length (each f (b .before))) (f x)
-  each-block {l} {i} {x} b = record {
-    before = each f (b .before);
-    after = each f (b .after);
-    whole = ap (each f) (b .whole) ∙ each-append (b .before) (x ∷ b .after);
+  pub concatMap-block : {l : List A} {i : ℕ} {x : A} (b : Block l i (x ∷ [])) → Block (concatMap f l) (length (concatMap f (b .before))) (f x)
+  concatMap-block {l} {i} {x} b = record {
+    before = concatMap f (b .before);
+    after = concatMap f (b .after);
+    whole = ap (concatMap f) (b .whole) ∙ concatMap-append (b .before) (x ∷ b .after);
     length-before = refl;
   }
 
   module _ (n : ℕ) (h : (a : A) → length (f a) ≡ n) where
-    pub length-each : (l : List A) → length (each f l) ≡ length l * n
-    length-each [] = sym (zero-mul n)
-    length-each (x ∷ xs) = rw (length-append, h x, length-each xs, suc-mul) (add-comm n (length xs * n))
+    pub length-concatMap : (l : List A) → length (concatMap f l) ≡ length l * n
+    length-concatMap [] = sym (zero-mul n)
+    length-concatMap (x ∷ xs) = rw (length-append, h x, length-concatMap xs, suc-mul) (add-comm n (length xs * n))
 
-    pub equal-block : {l : List A} {i : ℕ} {x : A} → Block l i (x ∷ []) → Block (each f l) (i * n) (f x)
-    equal-block b = block-at (length-each (b .before) ∙ ap (λ (k : ℕ). k * n) (b .length-before)) (each-block b)
+    pub equal-block : {l : List A} {i : ℕ} {x : A} → Block l i (x ∷ []) → Block (concatMap f l) (i * n) (f x)
+    equal-block b = block-at (length-concatMap (b .before) ∙ ap (λ (k : ℕ). k * n) (b .length-before)) (concatMap-block b)
 
 -- blocks one behind the other
 pub joined-block : {A : Type 0} {l a b : List A} {i : ℕ} → Block l i a → Block l (i + length a) b → Block l i (a ++ b)

@@ -3,13 +3,13 @@ use Prim.Native.Nat.{ℕ}
 use mathlib.Core.Path.{_≡_, refl}
 use mathlib.Core.List.{List, [], _∷_, _++_, map}
 use lib.ListN.{replicate}
-use Rattle.model.specs.Lists.{each}
+use Rattle.model.specs.Lists.{concatMap}
 use Rattle.model.specs.Reader.{Reply, refused, gives, after, ask, repeated, wholeFile}
 use Rattle.model.specs.Numbers.{numberWithin, numberIn, number}
 use Rattle.model.specs.Site.{Site, isSite, facts, isFact}
 use Rattle.model.specs.SiteFile.{declaration, row, tables, siteFile, readSite}
 use Rattle.model.specs.Tables.{vp, semiJoin, isStored}
-use Rattle.model.specs.Store.{semiJoins, kept, vpEntries, semiJoinEntries, layout, tablesIn, decoded, isStoreOf, storeOf}
+use Rattle.model.specs.Store.{semiJoins, storedRows, semiJoinEntries, layout, tablesIn, decoded, isStoreOf, storeOf}
 use Rattle.model.specs.Pattern.{Pattern, variables, width, fullTable}
 use Rattle.model.specs.PatternFile.{askPosition, askPredicate, triplePattern, patternFile, readPattern}
 use Rattle.model.specs.Plan.{Plan, qualifies, reducedTable, chosenTable, mayChoose}
@@ -90,7 +90,7 @@ patternIn (gives pattern) = pattern
 
 -- the words of the rows that the join of a plan's own tables gives on the shop
 abbrev pub joinWords : List ℕ → Plan → List ℕ
-joinWords bytes plan = each (λ row. row) (joinRows (siteIn (readSite shop)) (patternIn (readPattern (siteIn (readSite shop)) bytes)) plan)
+joinWords bytes plan = concatMap (λ row. row) (joinRows (siteIn (readSite shop)) (patternIn (readPattern (siteIn (readSite shop)) bytes)) plan)
 
 -- what a caller sees of an answer: the number returned, and four words lent for the values, each 7 before
 abbrev pub seen : Answer → PlanNumbers → Outcome
@@ -211,5 +211,5 @@ cases =
     ∷ []
 
 pub worked : map (λ c. c .0) cases ≡ map (λ c. c .1) cases
-unfolding after ask repeated wholeFile numberWithin numberIn number isSite facts isFact declaration row tables siteFile readSite vp semiJoin isStored semiJoins kept vpEntries semiJoinEntries layout tablesIn decoded isStoreOf storeOf variables width fullTable askPosition askPredicate triplePattern patternFile readPattern qualifies reducedTable chosenTable mayChoose step readPlan tableRows chooseTable isJoined termCount chosenRows beats competitors pick order planned terms rowsOver isSolution solutions extend joinTable joined joinRows either build plan noneByCounts rowsOutcome run numberOf valuesOf planBytesOf isRefused planAndRun chain decimalWithin decimal spaced rowLine firstLine rowLines printed
+unfolding after ask repeated wholeFile numberWithin numberIn number isSite facts isFact declaration row tables siteFile readSite vp semiJoin isStored semiJoins storedRows semiJoinEntries layout tablesIn decoded isStoreOf storeOf variables width fullTable askPosition askPredicate triplePattern patternFile readPattern qualifies reducedTable chosenTable mayChoose step readPlan tableRows chooseTable isJoined termCount chosenRows beats competitors pick order planned terms rowsOver isSolution solutions extend joinTable joined joinRows either build plan noneByCounts rowsOutcome run numberOf valuesOf planBytesOf isRefused planAndRun chain decimalWithin decimal spaced rowLine firstLine rowLines printed
 worked = refl

@@ -8,7 +8,7 @@ use mathlib.Core.List.{List, [], _∷_, _++_}
 use lib.ListN.{length, take, drop, replicate, length-replicate}
 use lib.Dec.{leb, eqb}
 use borrow.Author.Tests.{ltb-true, lt-ltb, le-leb, eqb-true}
-use Rattle.model.specs.Lists.{all, each}
+use Rattle.model.specs.Lists.{all, concatMap}
 use Rattle.model.specs.Numbers.{bytesWithin, numberBytes}
 use Rattle.model.specs.Reader.{gives}
 use Rattle.model.specs.Site.{Site}
@@ -16,7 +16,7 @@ use Rattle.model.specs.SiteFile.{readSite}
 use Rattle.model.specs.Store.{Store, storeAt, layout, Holds}
 use Rattle.model.specs.Pattern.{Pattern, mostTriplePatterns, width, isAccepted}
 use Rattle.model.specs.PatternFile.{readPattern}
-use Rattle.model.specs.Plan.{Plan, partner, kindOf, qualifies, isPlace, isStep, mayChoose, isProper}
+use Rattle.model.specs.Plan.{Plan, isPlace, isStep, mayChoose, isProper}
 use Rattle.model.specs.PlanFile.{stepNumbers, planBytes}
 use Rattle.model.specs.Planner.{planned}
 use Rattle.model.specs.Solutions.{solutions}
@@ -25,7 +25,7 @@ use Rattle.model.specs.Chain.{chainThreshold, chainStoreWords, isRefused
 use Rattle.model.specs.declared.answer.Answer.the-variants.{None}
 use Rattle.model.proofs.Booleans.{and-cases}
 use Rattle.model.proofs.Patterns.{pattern-limit}
-use Rattle.model.proofs.Places.{qualifying}
+use Rattle.model.proofs.Places.{choice-small}
 use Rattle.model.proofs.SiteFile.{site-file}
 use Rattle.model.proofs.PatternFile.{pattern-accepted}
 use Rattle.model.proofs.PlanFile.{plan-file}
@@ -45,26 +45,19 @@ front [] rest n h = refl
 front (x ∷ xs) rest zero h = absurd (omega arith)
 front (x ∷ xs) rest (suc n) h = ap (λ (l : List ℕ). x ∷ l) (front xs rest n (omega arith))
 
-numbers-length : (plan : Plan) → length (each stepNumbers plan) ≡ 2 * length plan
+numbers-length : (plan : Plan) → length (concatMap stepNumbers plan) ≡ 2 * length plan
 numbers-length [] = refl
 numbers-length (x ∷ xs) = let e = numbers-length xs in omega arith
 
 module _ (store : Store) (pattern : Pattern) (few : length pattern ≤ mostTriplePatterns) where
-  choice-small : (i c : ℕ) → mayChoose store pattern i c ≡ true → c < 128
-  unfolding mayChoose
-  choice-small i zero h = omega arith
-  choice-small i (suc c) h =
-      let q = qualifying pattern i (partner c) (kindOf c) (and-cases (qualifies pattern i (partner c) (kindOf c)) _ h .0) .there in
-      omega arith
-
-  steps-bytes : (plan : Plan) → all (isStep store pattern) plan ≡ true → planBytes plan ≡ each stepNumbers plan
+  steps-bytes : (plan : Plan) → all (isStep store pattern) plan ≡ true → planBytes plan ≡ concatMap stepNumbers plan
   unfolding planBytes
   steps-bytes [] h = refl
   steps-bytes (x ∷ xs) h =
       let c = and-cases (isStep store pattern x) (all (isStep store pattern) xs) h in
       let d = and-cases (isPlace pattern (x .place)) (mayChoose store pattern (x .place) (x .choice)) (c .0) in
       let place : x .place < 128 = let l = ltb-true (x .place) (length pattern) (d .0) in omega arith in
-      rw (one-byte (x .place) place, one-byte (x .choice) (choice-small (x .place) (x .choice) (d .1)), steps-bytes xs (c .1)) refl
+      rw (one-byte (x .place) place, one-byte (x .choice) (choice-small store pattern few (x .place) (x .choice) (d .1)), steps-bytes xs (c .1)) refl
 
   pub proper-bytes : (plan : Plan) → isProper store pattern plan ≡ true → stepBytes (planNumbers plan) ≡ planBytes plan
   unfolding isProper
@@ -73,7 +66,7 @@ module _ (store : Store) (pattern : Pattern) (few : length pattern ≤ mostTripl
       let same = eqb-true (length plan) (length pattern) (c .0) in
       let all-steps = and-cases (all (isStep store pattern) plan) _ (c .1) .0 in
       rw (← numbers-length plan)
-      (front (each stepNumbers plan) _ (2 * mostTriplePatterns) (rw (numbers-length plan) (omega arith)))
+      (front (concatMap stepNumbers plan) _ (2 * mostTriplePatterns) (rw (numbers-length plan) (omega arith)))
       ∙ sym (steps-bytes plan all-steps)
 
 -- ---- the chain

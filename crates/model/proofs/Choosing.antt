@@ -8,16 +8,16 @@ use mathlib.Core.Bool.{Bool, true}
 use lib.ListN.{length}
 use lib.Dec.{ltb}
 use borrow.Author.Tests.{ltb-true}
-use Rattle.model.specs.Lists.{keep, countUp, below}
+use Rattle.model.specs.Lists.{filter, countUp, below}
 use Rattle.model.specs.Tables.{kindCount}
 use Rattle.model.specs.Store.{Store}
 use Rattle.model.specs.Pattern.{Pattern}
 use Rattle.model.specs.Plan.{isPlace, partner, kindOf, qualifies, mayChoose}
 use Rattle.model.specs.Planner.{best, choices, tableRows, chooseTable}
 use Rattle.model.proofs.Booleans.{and-cases}
-use Rattle.model.proofs.Membership.{from-keep, into-keep}
+use Rattle.model.proofs.Membership.{from-filter, into-filter}
 use Rattle.model.proofs.Below.{into-below, countUp-ascends}
-use Rattle.model.proofs.Order.{numbers, ascends-keep}
+use Rattle.model.proofs.Order.{numbers, ascends-filter}
 use Rattle.model.proofs.Best.{Relation, Fewest, Lowest, IsFirst, fewest, best-first, best-again}
 
 -- ---- choice numbers
@@ -59,18 +59,18 @@ module _ (store : Store) (pattern : Pattern) (i : ℕ) where
   fewer c d = ltb (rowsOf c) (rowsOf d)
 
   -- VP, choice 0, may always be chosen, so the choices begin with it
-  chosen-first : IsFirst Sooner (keep may (choices pattern)) (chooseTable store pattern i)
+  chosen-first : IsFirst Sooner (filter may (choices pattern)) (chooseTable store pattern i)
   unfolding chooseTable mayChoose
   chosen-first =
       let n = length pattern * kindCount in
-      subst (λ m. IsFirst Sooner (keep may (below m)) (best fewer 0 (keep may (below m)))) (sym (one-add n))
-      (rw (best-again fewer 0 (keep may (countUp 1 n)))
-      (best-first (fewest rowsOf) 0 (keep may (countUp 1 n))
-      (ascends-keep ltb numbers may (below (suc n)) (countUp-ascends 0 (suc n)))))
+      subst (λ m. IsFirst Sooner (filter may (below m)) (best fewer 0 (filter may (below m)))) (sym (one-add n))
+      (rw (best-again fewer 0 (filter may (countUp 1 n)))
+      (best-first (fewest rowsOf) 0 (filter may (countUp 1 n))
+      (ascends-filter ltb numbers may (below (suc n)) (countUp-ascends 0 (suc n)))))
 
   pub chosen-table : ChosenTable store pattern i
   chosen-table = record {
-    allowed = from-keep may (choices pattern) (chosen-first .member) .1;
+    allowed = from-filter may (choices pattern) (chosen-first .member) .1;
     fewest = λ d h. no-fewer d (others d h);
     first = λ d h e. no-sooner d e (others d h);
   }
@@ -79,7 +79,7 @@ module _ (store : Store) (pattern : Pattern) (i : ℕ) where
       Comes d = (d ≡ chooseTable store pattern i) ⊎ Sooner (chooseTable store pattern i) d
 
       others : (d : ℕ) → may d ≡ true → Comes d
-      others d h = chosen-first .before d (into-keep may (into-below _ (allowed-below d h)) h)
+      others d h = chosen-first .before d (into-filter may (into-below _ (allowed-below d h)) h)
 
       no-fewer : (d : ℕ) → Comes d → rowsOf (chooseTable store pattern i) ≤ rowsOf d
       no-fewer d (inl q) = rw q (omega arith)

@@ -2,10 +2,11 @@
 use Prim.Native.Nat.{ℕ, _+_, _*_}
 use native.Mathlib.Omega.{arith}
 use mathlib.Core.Path.{_≡_, refl, ap}
-use mathlib.Core.Bool.{Bool, true, false, _&&_}
+use mathlib.Core.Bool.{Bool, true, false, cond, _&&_}
 use mathlib.Core.Option.{Option, none, some}
 use mathlib.Core.List.{List, [], _∷_, _++_, map, List·Memᴰ·head, List·Memᴰ·tail}
-use Rattle.model.specs.Lists.{_∈_, each, addFound, found}
+use lib.ListN.{length}
+use Rattle.model.specs.Lists.{_∈_, filter, concatMap, addSome, filterMap}
 
 abbrev pub num : Bool → ℕ
 num true = 1
@@ -41,29 +42,37 @@ module _ {A : Type 0} where
   count-and b p (x ∷ xs) = rw (count-and b p xs, num-and b (p x)) (omega arith)
 
   -- there is something, and it passes
-  abbrev pub foundPasses : (A → Bool) → Option A → Bool
-  foundPasses p none = false
-  foundPasses p (some x) = p x
+  abbrev pub somePasses : (A → Bool) → Option A → Bool
+  somePasses p none = false
+  somePasses p (some x) = p x
 
-pub count-found : {A B : Type 0} (p : B → Bool) (f : A → Option B) (l : List A) → count p (found f l) ≡ count (λ x. foundPasses p (f x)) l
-count-found p f [] = refl
-count-found {B = B} p f (x ∷ xs) = go (f x) (count-found p f xs)
+pub count-filterMap : {A B : Type 0} (p : B → Bool) (f : A → Option B) (l : List A) → count p (filterMap f l) ≡ count (λ x. somePasses p (f x)) l
+count-filterMap p f [] = refl
+count-filterMap {B = B} p f (x ∷ xs) = go (f x) (count-filterMap p f xs)
   where
-    go : (o : Option B) → count p (found f xs) ≡ count (λ y. foundPasses p (f y)) xs
-        → count p (addFound o (found f xs)) ≡ num (foundPasses p o) + count (λ y. foundPasses p (f y)) xs
+    go : (o : Option B) → count p (filterMap f xs) ≡ count (λ y. somePasses p (f y)) xs
+        → count p (addSome o (filterMap f xs)) ≡ num (somePasses p o) + count (λ y. somePasses p (f y)) xs
     go none e = omega arith
     go (some y) e = omega arith
 
 -- lists that have, of what passes, c for each element that passes
-pub count-each : {A B : Type 0} (p : B → Bool) (q : A → Bool) (f : A → List B) (c : ℕ) (l : List A)
-    → ((x : A) → x ∈ l → count p (f x) ≡ num (q x) * c) → count p (each f l) ≡ count q l * c
-count-each p q f c [] h = omega arith
-count-each p q f c (x ∷ xs) h =
-    let a = count-append p (f x) (each f xs) in
+pub count-concatMap : {A B : Type 0} (p : B → Bool) (q : A → Bool) (f : A → List B) (c : ℕ) (l : List A)
+    → ((x : A) → x ∈ l → count p (f x) ≡ num (q x) * c) → count p (concatMap f l) ≡ count q l * c
+count-concatMap p q f c [] h = omega arith
+count-concatMap p q f c (x ∷ xs) h =
+    let a = count-append p (f x) (concatMap f xs) in
     let b = h x (List·Memᴰ·head refl) in
-    let d = count-each p q f c xs (λ y m. h y (List·Memᴰ·tail m)) in
+    let d = count-concatMap p q f c xs (λ y m. h y (List·Memᴰ·tail m)) in
     omega arith
 
 pub count-map : {A B : Type 0} (p : B → Bool) (f : A → B) (l : List A) → count p (map f l) ≡ count (λ x. p (f x)) l
 count-map p f [] = refl
 count-map p f (x ∷ xs) = ap (λ (n : ℕ). num (p (f x)) + n) (count-map p f xs)
+
+pub filter-count : {A : Type 0} (p : A → Bool) (l : List A) → length (filter p l) ≡ count p l
+filter-count p [] = refl
+filter-count p (x ∷ xs) = go (p x) (filter-count p xs)
+  where
+    go : (b : Bool) → length (filter p xs) ≡ count p xs → length (cond b (x ∷ filter p xs) (filter p xs)) ≡ num b + count p xs
+    go true e = omega arith
+    go false e = omega arith

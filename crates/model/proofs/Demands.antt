@@ -2,14 +2,14 @@
 use Prim.Native.Nat.{ℕ, _+_, _*_, _≤_, _<_}
 use native.Mathlib.Omega.{arith}
 use mathlib.Core.Path.{_≡_, refl}
-use mathlib.Core.Logic.{_⊎_, ⊎-elim, _↔_}
+use mathlib.Core.Logic.{⊎-elim, _↔_}
 use mathlib.Core.Bool.{true, false}
 use mathlib.Core.Option.{some}
 use mathlib.Core.List.{List, [], _∷_, _++_, map, List·Memᴰ·tail}
 use lib.ListN.{length, getD, take, drop}
 use lib.Dec.{ltb, leb}
 use borrow.Author.Tests.{ltb-true, lt-ltb, le-leb}
-use Rattle.model.specs.Lists.{_∈_, ascends, keep, below, wordsBefore}
+use Rattle.model.specs.Lists.{_∈_, ascends, filter, below, lexicographic}
 use Rattle.model.specs.Reader.{gives}
 use Rattle.model.specs.Numbers.{areBytes}
 use Rattle.model.specs.Site.{Row, rowBefore, Site, isSite, IsFact, noTable, tableAt}
@@ -113,7 +113,7 @@ chain-answers-solutions = chain-solutions
 abbrev pub Solutions-Are-Listed : Type 0
 Solutions-Are-Listed =
     (site : Site) (bytes : List ℕ) (pattern : Pattern) → readPattern site bytes ≡ gives pattern
-    → (ascends wordsBefore (solutions site pattern) ≡ true) × ((row : List ℕ) → (row ∈ solutions site pattern) ↔ IsSolution site pattern row)
+    → (ascends lexicographic (solutions site pattern) ≡ true) × ((row : List ℕ) → (row ∈ solutions site pattern) ↔ IsSolution site pattern row)
 
 pub demand-2-solutions : Solutions-Are-Listed
 demand-2-solutions site bytes pattern r = (
@@ -125,7 +125,7 @@ demand-2-solutions site bytes pattern r = (
 abbrev pub V-Counts : Type 0
 V-Counts =
     (site : Site) (bytes : List ℕ) (pattern : Pattern) → readPattern site bytes ≡ gives pattern
-    → width pattern ≡ length (keep (stands pattern) (below mostVariables))
+    → width pattern ≡ length (filter (stands pattern) (below mostVariables))
 
 pub v-counts : V-Counts
 v-counts site bytes pattern r = width-counts site pattern (pattern-accepted site bytes pattern r)

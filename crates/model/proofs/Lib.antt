@@ -21,6 +21,10 @@ pub mod Equation
 pub mod Blocks
 pub mod StoreLayout
 pub mod Stores
+pub mod Decoder
+pub mod Setting
+pub mod Rows
+pub mod FilteredRows
 pub mod Best
 pub mod Choosing
 pub mod Ordering

@@ -5,9 +5,10 @@ use native.Mathlib.Nat.{not-suc-le-zero, le-of-suc-le-suc}
 use mathlib.Core.Path.{_≡_, refl, sym, ap, _∙_, subst}
 use mathlib.Core.Logic.{_⊎_, inl, inr}
 use mathlib.Core.Bool.{Bool, true, false, cond, _&&_, _||_, false≢true, and-assoc, or-assoc}
+use mathlib.Core.Option.{Option, none, some}
 use mathlib.Core.List.{List, [], _∷_, _++_, List·Memᴰ·head, List·Memᴰ·tail, List·Memᴰ·not-nil, List·Memᴰ·cases-cons, Memᴰ·append-left, Memᴰ·append-right, List·Memᴰ·append-cases}
 use lib.ListN.{length, getD}
-use Rattle.model.specs.Lists.{_∈_, keep, any, all, each}
+use Rattle.model.specs.Lists.{_∈_, filter, any, all, concatMap, addSome, filterMap}
 use Rattle.model.proofs.Booleans.{and-cases, and-make, or-cases, or-left, or-right}
 
 module _ {A : Type 0} where
@@ -27,39 +28,39 @@ module _ {A : Type 0} where
   place-of d (List·Memᴰ·tail m) = let r = place-of d m in (suc (r .0), omega arith, r .2)
 
 module _ {A : Type 0} (p : A → Bool) where
-  pub from-keep : {a : A} (l : List A) → a ∈ keep p l → (a ∈ l) × (p a ≡ true)
-  from-keep [] m = absurd (List·Memᴰ·not-nil m)
-  from-keep {a} (x ∷ xs) m = go (p x) refl m (λ n. from-keep xs n)
+  pub from-filter : {a : A} (l : List A) → a ∈ filter p l → (a ∈ l) × (p a ≡ true)
+  from-filter [] m = absurd (List·Memᴰ·not-nil m)
+  from-filter {a} (x ∷ xs) m = go (p x) refl m (λ n. from-filter xs n)
     where
       later : (a ∈ xs) × (p a ≡ true) → (a ∈ x ∷ xs) × (p a ≡ true)
       later r = (List·Memᴰ·tail (r .0), r .1)
 
-      first : p x ≡ true → (a ≡ x) ⊎ a ∈ keep p xs → (a ∈ keep p xs → (a ∈ xs) × (p a ≡ true)) → (a ∈ x ∷ xs) × (p a ≡ true)
+      first : p x ≡ true → (a ≡ x) ⊎ a ∈ filter p xs → (a ∈ filter p xs → (a ∈ xs) × (p a ≡ true)) → (a ∈ x ∷ xs) × (p a ≡ true)
       first e (inl q) rest = (List·Memᴰ·head q, ap p q ∙ e)
       first e (inr n) rest = later (rest n)
 
-      go : (b : Bool) → p x ≡ b → a ∈ cond b (x ∷ keep p xs) (keep p xs) → (a ∈ keep p xs → (a ∈ xs) × (p a ≡ true)) → (a ∈ x ∷ xs) × (p a ≡ true)
+      go : (b : Bool) → p x ≡ b → a ∈ cond b (x ∷ filter p xs) (filter p xs) → (a ∈ filter p xs → (a ∈ xs) × (p a ≡ true)) → (a ∈ x ∷ xs) × (p a ≡ true)
       go true e n rest = first e (List·Memᴰ·cases-cons n) rest
       go false e n rest = later (rest n)
 
-  pub into-keep : {a : A} {l : List A} → a ∈ l → p a ≡ true → a ∈ keep p l
-  into-keep (List·Memᴰ·head q) e = rw (sym (ap p q) ∙ e) (List·Memᴰ·head q)
-  into-keep {a} (List·Memᴰ·tail {x} {xs} m) e = go (p x) (into-keep m e)
+  pub into-filter : {a : A} {l : List A} → a ∈ l → p a ≡ true → a ∈ filter p l
+  into-filter (List·Memᴰ·head q) e = rw (sym (ap p q) ∙ e) (List·Memᴰ·head q)
+  into-filter {a} (List·Memᴰ·tail {x} {xs} m) e = go (p x) (into-filter m e)
     where
-      go : (b : Bool) → a ∈ keep p xs → a ∈ cond b (x ∷ keep p xs) (keep p xs)
+      go : (b : Bool) → a ∈ filter p xs → a ∈ cond b (x ∷ filter p xs) (filter p xs)
       go true r = List·Memᴰ·tail r
       go false r = r
 
   -- nothing fails the test
-  pub keep-all : (l : List A) → ((a : A) → a ∈ l → p a ≡ true) → keep p l ≡ l
-  keep-all [] h = refl
-  keep-all (x ∷ xs) h = rw (h x (List·Memᴰ·head refl)) (ap (λ l. x ∷ l) (keep-all xs (λ a m. h a (List·Memᴰ·tail m))))
+  pub filter-all : (l : List A) → ((a : A) → a ∈ l → p a ≡ true) → filter p l ≡ l
+  filter-all [] h = refl
+  filter-all (x ∷ xs) h = rw (h x (List·Memᴰ·head refl)) (ap (λ l. x ∷ l) (filter-all xs (λ a m. h a (List·Memᴰ·tail m))))
 
-  pub keep-fewer : (l : List A) → length (keep p l) ≤ length l
-  keep-fewer [] = omega arith
-  keep-fewer (x ∷ xs) = go (p x) (keep-fewer xs)
+  pub filter-fewer : (l : List A) → length (filter p l) ≤ length l
+  filter-fewer [] = omega arith
+  filter-fewer (x ∷ xs) = go (p x) (filter-fewer xs)
     where
-      go : (b : Bool) → length (keep p xs) ≤ length xs → length (cond b (x ∷ keep p xs) (keep p xs)) ≤ suc (length xs)
+      go : (b : Bool) → length (filter p xs) ≤ length xs → length (cond b (x ∷ filter p xs) (filter p xs)) ≤ suc (length xs)
       go true h = omega arith
       go false h = omega arith
 
@@ -95,40 +96,68 @@ module _ {A : Type 0} (p : A → Bool) where
   any-append [] m = refl
   any-append (x ∷ xs) m = rw (any-append xs m) (sym (or-assoc (p x) (any p xs) (any p m)))
 
-  pub keep-append : (l m : List A) → keep p (l ++ m) ≡ keep p l ++ keep p m
-  keep-append [] m = refl
-  keep-append (x ∷ xs) m = go (p x) (keep-append xs m)
+  pub filter-append : (l m : List A) → filter p (l ++ m) ≡ filter p l ++ filter p m
+  filter-append [] m = refl
+  filter-append (x ∷ xs) m = go (p x) (filter-append xs m)
     where
-      go : (b : Bool) → keep p (xs ++ m) ≡ keep p xs ++ keep p m
-          → cond b (x ∷ keep p (xs ++ m)) (keep p (xs ++ m)) ≡ cond b (x ∷ keep p xs) (keep p xs) ++ keep p m
+      go : (b : Bool) → filter p (xs ++ m) ≡ filter p xs ++ filter p m
+          → cond b (x ∷ filter p (xs ++ m)) (filter p (xs ++ m)) ≡ cond b (x ∷ filter p xs) (filter p xs) ++ filter p m
       go true e = rw e refl
       go false e = e
 
 module _ {A : Type 0} (p q : A → Bool) where
   -- tests that agree on a list
-  pub keep-same : (l : List A) → ((a : A) → a ∈ l → p a ≡ q a) → keep p l ≡ keep q l
-  keep-same [] h = refl
-  keep-same (x ∷ xs) h = rw (h x (List·Memᴰ·head refl), keep-same xs (λ a m. h a (List·Memᴰ·tail m))) refl
+  pub filter-same : (l : List A) → ((a : A) → a ∈ l → p a ≡ q a) → filter p l ≡ filter q l
+  filter-same [] h = refl
+  filter-same (x ∷ xs) h = rw (h x (List·Memᴰ·head refl), filter-same xs (λ a m. h a (List·Memᴰ·tail m))) refl
+
+  pub any-same : (l : List A) → ((a : A) → a ∈ l → p a ≡ q a) → any p l ≡ any q l
+  any-same [] h = refl
+  any-same (x ∷ xs) h = rw (h x (List·Memᴰ·head refl), any-same xs (λ a m. h a (List·Memᴰ·tail m))) refl
 
   -- the tests one after the other
-  pub keep-keep : (l : List A) → keep q (keep p l) ≡ keep (λ x. p x && q x) l
-  keep-keep [] = refl
-  keep-keep (x ∷ xs) = go (p x) (keep-keep xs)
+  pub filter-filter : (l : List A) → filter q (filter p l) ≡ filter (λ x. p x && q x) l
+  filter-filter [] = refl
+  filter-filter (x ∷ xs) = go (p x) (filter-filter xs)
     where
-      go : (b : Bool) → keep q (keep p xs) ≡ keep (λ y. p y && q y) xs
-          → keep q (cond b (x ∷ keep p xs) (keep p xs)) ≡ cond (b && q x) (x ∷ keep (λ y. p y && q y) xs) (keep (λ y. p y && q y) xs)
+      go : (b : Bool) → filter q (filter p xs) ≡ filter (λ y. p y && q y) xs
+          → filter q (cond b (x ∷ filter p xs) (filter p xs)) ≡ cond (b && q x) (x ∷ filter (λ y. p y && q y) xs) (filter (λ y. p y && q y) xs)
       go true e = rw e refl
       go false e = e
 
 module _ {A B : Type 0} (f : A → List B) where
-  pub into-each : {y : B} {a : A} {l : List A} → a ∈ l → y ∈ f a → y ∈ each f l
-  into-each {y} (List·Memᴰ·head {x} {xs} q) m = Memᴰ·append-left (each f xs) (subst (λ z. y ∈ f z) q m)
-  into-each (List·Memᴰ·tail {x} n) m = Memᴰ·append-right (f x) (into-each n m)
+  pub into-concatMap : {y : B} {a : A} {l : List A} → a ∈ l → y ∈ f a → y ∈ concatMap f l
+  into-concatMap {y} (List·Memᴰ·head {x} {xs} q) m = Memᴰ·append-left (concatMap f xs) (subst (λ z. y ∈ f z) q m)
+  into-concatMap (List·Memᴰ·tail {x} n) m = Memᴰ·append-right (f x) (into-concatMap n m)
 
-  pub from-each : {y : B} (l : List A) → y ∈ each f l → (a : A) × (a ∈ l) × (y ∈ f a)
-  from-each [] m = absurd (List·Memᴰ·not-nil m)
-  from-each {y} (x ∷ xs) m = go (List·Memᴰ·append-cases (f x) m) (λ n. from-each xs n)
+  pub from-concatMap : {y : B} (l : List A) → y ∈ concatMap f l → (a : A) × (a ∈ l) × (y ∈ f a)
+  from-concatMap [] m = absurd (List·Memᴰ·not-nil m)
+  from-concatMap {y} (x ∷ xs) m = go (List·Memᴰ·append-cases (f x) m) (λ n. from-concatMap xs n)
     where
-      go : y ∈ f x ⊎ y ∈ each f xs → (y ∈ each f xs → (a : A) × (a ∈ xs) × (y ∈ f a)) → (a : A) × (a ∈ x ∷ xs) × (y ∈ f a)
+      go : y ∈ f x ⊎ y ∈ concatMap f xs → (y ∈ concatMap f xs → (a : A) × (a ∈ xs) × (y ∈ f a)) → (a : A) × (a ∈ x ∷ xs) × (y ∈ f a)
       go (inl n) rest = (x, List·Memᴰ·head refl, n)
       go (inr n) rest = let r = rest n in (r .0, List·Memᴰ·tail (r .1), r .2)
+
+-- what a list gives, where it gives something
+pub from-filterMap : {A B : Type 0} {y : B} (f : A → Option B) (l : List A) → y ∈ filterMap f l → (a : A) × (a ∈ l) × (f a ≡ some y)
+from-filterMap f [] m = absurd (List·Memᴰ·not-nil m)
+from-filterMap {A} {B} {y} f (x ∷ xs) m = go (f x) refl m (λ n. from-filterMap f xs n)
+  where
+    first : (z : B) → f x ≡ some z → (y ≡ z) ⊎ y ∈ filterMap f xs → (y ∈ filterMap f xs → (a : A) × (a ∈ xs) × (f a ≡ some y))
+        → (a : A) × (a ∈ x ∷ xs) × (f a ≡ some y)
+    first z e (inl q) rest = (x, List·Memᴰ·head refl, rw q e)
+    first z e (inr n) rest = let r = rest n in (r .0, List·Memᴰ·tail (r .1), r .2)
+
+    go : (o : Option B) → f x ≡ o → y ∈ addSome o (filterMap f xs) → (y ∈ filterMap f xs → (a : A) × (a ∈ xs) × (f a ≡ some y))
+        → (a : A) × (a ∈ x ∷ xs) × (f a ≡ some y)
+    go none e n rest = let r = rest n in (r .0, List·Memᴰ·tail (r .1), r .2)
+    go (some z) e n rest = first z e (List·Memᴰ·cases-cons n) rest
+
+-- what is found of an element is found of the list
+pub into-filterMap : {A B : Type 0} {a : A} {y : B} (f : A → Option B) {l : List A} → a ∈ l → f a ≡ some y → y ∈ filterMap f l
+into-filterMap f (List·Memᴰ·head q) e = rw (sym (ap f q) ∙ e) (List·Memᴰ·head refl)
+into-filterMap {B = B} {y = y} f (List·Memᴰ·tail {x} {xs} m) e = go (f x) (into-filterMap f m e)
+  where
+    go : (o : Option B) → y ∈ filterMap f xs → y ∈ addSome o (filterMap f xs)
+    go none n = n
+    go (some z) n = List·Memᴰ·tail n

@@ -10,7 +10,7 @@ use lib.ListN.{length, drop}
 use lib.Seq.{drop-append-seam}
 use lib.Dec.{eqb, ltb}
 use borrow.Author.Tests.{ltb-true, ltb-false, lt-ltb, le-ltb, leb-true, ne-eqb, eqb-false, not-true}
-use Rattle.model.specs.Lists.{each}
+use Rattle.model.specs.Lists.{concatMap}
 use Rattle.model.specs.Reader.{gives, Reader, after}
 use Rattle.model.specs.Numbers.{areBytes, mostTerm, isTerm, Sized, lastGroup, lowGroup, numberWithin, numberIn, orRefused, number, numberLimit, bytesWithin, numberBytes}
 use Rattle.model.proofs.Booleans.{and-cases, and-make, or-right}
@@ -66,9 +66,9 @@ unfolding numberBytes
 number-bytes m = within-bytes _ m
 
 -- so are many numbers, one behind the other
-pub bytes-each : {A : Type 0} (write : A → List ℕ) → ((x : A) → areBytes (write x) ≡ true) → (l : List A) → areBytes (each write l) ≡ true
-bytes-each write h [] = refl
-bytes-each write h (x ∷ xs) = bytes-both (write x) (each write xs) (h x) (bytes-each write h xs)
+pub bytes-concatMap : {A : Type 0} (write : A → List ℕ) → ((x : A) → areBytes (write x) ≡ true) → (l : List A) → areBytes (concatMap write l) ≡ true
+bytes-concatMap write h [] = refl
+bytes-concatMap write h (x ∷ xs) = bytes-both (write x) (concatMap write xs) (h x) (bytes-concatMap write h xs)
 
 -- ---- what is read
 

@@ -7,10 +7,10 @@ use mathlib.Core.Bool.{Bool, true, false, cond, _&&_, _||_, false≢true}
 use mathlib.Core.List.{List, [], _∷_, _++_, List·Memᴰ·head, List·Memᴰ·not-nil, List·Memᴰ·cases-cons}
 use lib.Dec.{eqb, ltb}
 use borrow.Author.Tests.{ltb-true, ltb-false, eqb-true, lt-ltb, eq-eqb}
-use Rattle.model.specs.Lists.{_∈_, keep, belowFirst, ascends, aboveLast, wordsBefore}
+use Rattle.model.specs.Lists.{_∈_, filter, belowFirst, ascends, aboveLast, lexicographic}
 use Rattle.model.specs.Site.{Row, rowBefore}
 use Rattle.model.proofs.Booleans.{and-cases, and-make, or-cases, or-left, or-right, bool-cases, not-both, to-false}
-use Rattle.model.proofs.Membership.{from-keep}
+use Rattle.model.proofs.Membership.{from-filter}
 
 pub record IsOrder {A : Type 0} (before : A → A → Bool) : Type 0 where
   pub irreflexive : (x : A) → before x x ≡ true → ⊥
@@ -81,34 +81,34 @@ rows = record {
         let f = numbers .total (r .1) (s .1) (tail-of-not (r .0) (s .0) _ e p) (tail-of-not (s .0) (r .0) _ (sym e) q) in
         λ i. (e i, f i)
 
-words-irreflexive : (x : List ℕ) → wordsBefore x x ≡ true → ⊥
+words-irreflexive : (x : List ℕ) → lexicographic x x ≡ true → ⊥
 words-irreflexive [] h = false≢true h
-words-irreflexive (a ∷ xs) h = go (head-first a a (wordsBefore xs xs) h) (λ k. words-irreflexive xs k)
+words-irreflexive (a ∷ xs) h = go (head-first a a (lexicographic xs xs) h) (λ k. words-irreflexive xs k)
   where
-    go : (a < a) ⊎ ((a ≡ a) × (wordsBefore xs xs ≡ true)) → (wordsBefore xs xs ≡ true → ⊥) → ⊥
+    go : (a < a) ⊎ ((a ≡ a) × (lexicographic xs xs ≡ true)) → (lexicographic xs xs ≡ true → ⊥) → ⊥
     go (inl k) rest = omega arith
     go (inr k) rest = rest (k .1)
 
-words-transitive : (x y z : List ℕ) → wordsBefore x y ≡ true → wordsBefore y z ≡ true → wordsBefore x z ≡ true
+words-transitive : (x y z : List ℕ) → lexicographic x y ≡ true → lexicographic y z ≡ true → lexicographic x z ≡ true
 words-transitive x y [] p q = absurd (false≢true q)
 words-transitive x [] (c ∷ zs) p q = absurd (false≢true p)
 words-transitive [] (b ∷ ys) (c ∷ zs) p q = refl
 words-transitive (a ∷ xs) (b ∷ ys) (c ∷ zs) p q =
-    chain a b c (wordsBefore xs ys) (wordsBefore ys zs) (wordsBefore xs zs) (words-transitive xs ys zs)
-    (head-first a b (wordsBefore xs ys) p) (head-first b c (wordsBefore ys zs) q)
+    chain a b c (lexicographic xs ys) (lexicographic ys zs) (lexicographic xs zs) (words-transitive xs ys zs)
+    (head-first a b (lexicographic xs ys) p) (head-first b c (lexicographic ys zs) q)
 
-words-total : (x y : List ℕ) → wordsBefore x y ≡ false → wordsBefore y x ≡ false → x ≡ y
+words-total : (x y : List ℕ) → lexicographic x y ≡ false → lexicographic y x ≡ false → x ≡ y
 words-total [] [] p q = refl
 words-total [] (b ∷ ys) p q = absurd (false≢true (sym p))
 words-total (a ∷ xs) [] p q = absurd (false≢true (sym q))
 words-total (a ∷ xs) (b ∷ ys) p q =
-    let h = le-of-not a b (wordsBefore xs ys) p in
-    let k = le-of-not b a (wordsBefore ys xs) q in
+    let h = le-of-not a b (lexicographic xs ys) p in
+    let k = le-of-not b a (lexicographic ys xs) q in
     let e : a ≡ b = omega arith in
     let t = words-total xs ys (tail-of-not a b _ e p) (tail-of-not b a _ (sym e) q) in
     cc
 
-pub words : IsOrder wordsBefore
+pub words : IsOrder lexicographic
 words = record { irreflexive = words-irreflexive; transitive = words-transitive; total = words-total }
 
 -- ---- ascending lists
@@ -141,10 +141,10 @@ module _ {A : Type 0} (before : A → A → Bool) where
     pub ascends-tail : (x : A) (xs : List A) → ascends before (x ∷ xs) ≡ true → ascends before xs ≡ true
     ascends-tail x xs e = and-cases (belowFirst before x xs) (ascends before xs) e .1
 
-    pub ascends-keep : (p : A → Bool) (l : List A) → ascends before l ≡ true → ascends before (keep p l) ≡ true
-    ascends-keep p [] e = refl
-    ascends-keep p (x ∷ xs) e = go (p x) (ascends-keep p xs (ascends-tail x xs e))
+    pub ascends-filter : (p : A → Bool) (l : List A) → ascends before l ≡ true → ascends before (filter p l) ≡ true
+    ascends-filter p [] e = refl
+    ascends-filter p (x ∷ xs) e = go (p x) (ascends-filter p xs (ascends-tail x xs e))
       where
-        go : (b : Bool) → ascends before (keep p xs) ≡ true → ascends before (cond b (x ∷ keep p xs) (keep p xs)) ≡ true
-        go true r = ascends-cons x (keep p xs) (λ y m. first-before x xs e (from-keep p xs m .0)) r
+        go : (b : Bool) → ascends before (filter p xs) ≡ true → ascends before (cond b (x ∷ filter p xs) (filter p xs)) ≡ true
+        go true r = ascends-cons x (filter p xs) (λ y m. first-before x xs e (from-filter p xs m .0)) r
         go false r = r

@@ -9,14 +9,14 @@ use lib.ListN.{length}
 use lib.Seq.{append-snoc}
 use lib.Dec.{eqb, ltb}
 use borrow.Author.Tests.{ltb-true, eqb-true, eq-eqb, ne-eqb}
-use Rattle.model.specs.Lists.{_∈_, keep, ascends}
+use Rattle.model.specs.Lists.{_∈_, filter, ascends}
 use Rattle.model.specs.Store.{Store}
 use Rattle.model.specs.Pattern.{Pattern, places}
 use Rattle.model.specs.Plan.{placesOf}
 use Rattle.model.specs.Planner.{isJoined, termCount, chosenRows, beats, orElse, competitors, bestOf, without, pick, order, planned}
 use Rattle.model.proofs.Booleans.{not-both, to-false}
-use Rattle.model.proofs.Membership.{no-element, at-place, from-keep, into-keep, keep-all}
-use Rattle.model.proofs.Order.{numbers, first-before, ascends-tail, ascends-keep}
+use Rattle.model.proofs.Membership.{no-element, at-place, from-filter, into-filter, filter-all}
+use Rattle.model.proofs.Order.{numbers, first-before, ascends-tail, ascends-filter}
 use Rattle.model.proofs.Best.{Relation, Fewest, Most, Lowest, Decides, fewest, most, IsFirst, best-of-first}
 use Rattle.model.proofs.Below.{length-countUp, countUp-ascends}
 
@@ -25,7 +25,7 @@ use Rattle.model.proofs.Below.{length-countUp, countUp-ascends}
 -- an ascending list has each number once
 length-without : {i : ℕ} (xs : List ℕ) → ascends ltb xs ≡ true → i ∈ xs → suc (length (without i xs)) ≡ length xs
 length-without {i} (x ∷ xs) e (List·Memᴰ·head q) =
-    rw (eq-eqb x i (sym q)) (ap (λ l. suc (length l)) (keep-all (λ j. not (eqb j i)) xs other))
+    rw (eq-eqb x i (sym q)) (ap (λ l. suc (length l)) (filter-all (λ j. not (eqb j i)) xs other))
   where
     other : (j : ℕ) → j ∈ xs → not (eqb j i) ≡ true
     other j m = let h = ltb-true x j (first-before ltb numbers x xs e m) in rw (ne-eqb j i (omega arith)) refl
@@ -77,27 +77,27 @@ module _ (store : Store) (pattern : Pattern) (taken remaining : List ℕ) where
   of-all apart f = record { remains = f .member; competes = inr apart; unbeaten = λ j m c h. another (f .before j m) h }
 
   -- some do: only they compete
-  of-joined : {i x : ℕ} → x ∈ keep joins remaining → IsFirst Before (keep joins remaining) i → Picked store pattern taken remaining i
+  of-joined : {i x : ℕ} → x ∈ filter joins remaining → IsFirst Before (filter joins remaining) i → Picked store pattern taken remaining i
   of-joined {i} {x} n f =
-      let r = from-keep joins remaining (f .member) in
+      let r = from-filter joins remaining (f .member) in
       record { remains = r .0; competes = inl (r .1); unbeaten = λ j m c h. another (f .before j (competitor j m c)) h }
     where
-      competitor : (j : ℕ) → j ∈ remaining → Competes pattern taken remaining j → j ∈ keep joins remaining
-      competitor j m (inl e) = into-keep joins m e
-      competitor j m (inr apart) = let r = from-keep joins remaining n in not-both (r .1) (apart x (r .0))
+      competitor : (j : ℕ) → j ∈ remaining → Competes pattern taken remaining j → j ∈ filter joins remaining
+      competitor j m (inl e) = into-filter joins m e
+      competitor j m (inr apart) = let r = from-filter joins remaining n in not-both (r .1) (apart x (r .0))
 
   -- the pick from some that ascend
   picked : {y : ℕ} → y ∈ remaining → ascends ltb remaining ≡ true → Picked store pattern taken remaining (pick store pattern taken remaining)
   unfolding pick competitors
-  picked m e = go (keep joins remaining) refl
+  picked m e = go (filter joins remaining) refl
     where
-      go : (l : List ℕ) → keep joins remaining ≡ l → Picked store pattern taken remaining (bestOf (beats store pattern taken) (orElse l remaining))
+      go : (l : List ℕ) → filter joins remaining ≡ l → Picked store pattern taken remaining (bestOf (beats store pattern taken) (orElse l remaining))
       go [] q =
-          of-all (λ j n. to-false (joins j) (λ t. List·Memᴰ·not-nil (rw q at (into-keep joins n t)))) (best-of-first decides remaining m e)
+          of-all (λ j n. to-false (joins j) (λ t. List·Memᴰ·not-nil (rw q at (into-filter joins n t)))) (best-of-first decides remaining m e)
       go (x ∷ xs) q =
-          let n : x ∈ keep joins remaining = rw q (List·Memᴰ·head refl) in
+          let n : x ∈ filter joins remaining = rw q (List·Memᴰ·head refl) in
           subst (λ l. Picked store pattern taken remaining (bestOf (beats store pattern taken) l)) q
-          (of-joined n (best-of-first decides (keep joins remaining) n (ascends-keep ltb numbers joins remaining e)))
+          (of-joined n (best-of-first decides (filter joins remaining) n (ascends-filter ltb numbers joins remaining e)))
 
 -- ---- all picks
 
@@ -110,7 +110,7 @@ module _ (store : Store) (pattern : Pattern) where
       let i = pick store pattern taken remaining in
       let p = picked store pattern taken remaining (at-place remaining 0 0 (omega arith)) e in
       let c = length-without remaining e (p .remains) in
-      (p, order-picks n (taken ++ i ∷ []) (without i remaining) (ascends-keep ltb numbers (λ j. not (eqb j i)) remaining e) (omega arith))
+      (p, order-picks n (taken ++ i ∷ []) (without i remaining) (ascends-filter ltb numbers (λ j. not (eqb j i)) remaining e) (omega arith))
 
   -- what is picked remained
   pub from-ordered : {i : ℕ} (taken remaining is : List ℕ) → Ordered store pattern taken remaining is → i ∈ is → i ∈ remaining
@@ -120,7 +120,7 @@ module _ (store : Store) (pattern : Pattern) where
     where
       go : (i ≡ k) ⊎ i ∈ is → (i ∈ is → i ∈ without k remaining) → i ∈ remaining
       go (inl q) rest = Memᴰ·cast q (o .0 .remains)
-      go (inr n) rest = from-keep (λ j. not (eqb j k)) remaining (rest n) .0
+      go (inr n) rest = from-filter (λ j. not (eqb j k)) remaining (rest n) .0
 
   -- what remains is picked
   into-ordered : {i : ℕ} (taken remaining is : List ℕ) → Ordered store pattern taken remaining is → i ∈ remaining → i ∈ is
@@ -130,7 +130,7 @@ module _ (store : Store) (pattern : Pattern) where
     where
       go : (b : Bool) → eqb i k ≡ b → (i ∈ without k remaining → i ∈ is) → i ∈ k ∷ is
       go true e rest = List·Memᴰ·head (eqb-true i k e)
-      go false e rest = List·Memᴰ·tail (rest (into-keep (λ j. not (eqb j k)) m (rw e refl)))
+      go false e rest = List·Memᴰ·tail (rest (into-filter (λ j. not (eqb j k)) m (rw e refl)))
 
   -- the same for what remains in another order
   picked-of : (taken remaining others : List ℕ) (i : ℕ) → ((j : ℕ) → j ∈ others → j ∈ remaining) → ((j : ℕ) → j ∈ remaining → j ∈ others)

@@ -8,19 +8,19 @@ use mathlib.Core.List.{List, [], _∷_, map, map-append, append-nil, List·Mem�
 use lib.ListN.{length}
 use lib.Dec.{eqb, ltb, leb}
 use borrow.Author.Tests.{ltb-true, leb-true, eqb-true, eq-eqb, ne-eqb}
-use Rattle.model.specs.Lists.{_∈_, keep, all, each, ascends}
+use Rattle.model.specs.Lists.{_∈_, filter, all, concatMap, ascends}
 use Rattle.model.specs.Numbers.{isTerm}
 use Rattle.model.specs.Site.{Row, rowBefore, Table, Site, withinLimits, predicatesProper, rowsProper, isSite, mostPredicates, mostRows, rowTotal, Fact, factsOf, facts, IsFact, isDeclared}
 use Rattle.model.specs.Tables.{vp}
 use Rattle.model.proofs.Booleans.{and-cases, bool-cases, not-both, to-false}
-use Rattle.model.proofs.Membership.{from-keep, into-keep, into-any, from-any, from-all, keep-append}
+use Rattle.model.proofs.Membership.{from-filter, into-filter, into-any, from-any, from-all, filter-append}
 use Rattle.model.proofs.Order.{numbers, first-before, ascends-tail}
 
 -- ---- general
 
-each-nothing : {A B : Type 0} (f : A → List B) (l : List A) → ((a : A) → a ∈ l → f a ≡ []) → each f l ≡ []
-each-nothing f [] h = refl
-each-nothing f (x ∷ xs) h = rw (h x (List·Memᴰ·head refl), each-nothing f xs (λ a m. h a (List·Memᴰ·tail m))) refl
+concatMap-nothing : {A B : Type 0} (f : A → List B) (l : List A) → ((a : A) → a ∈ l → f a ≡ []) → concatMap f l ≡ []
+concatMap-nothing f [] h = refl
+concatMap-nothing f (x ∷ xs) h = rw (h x (List·Memᴰ·head refl), concatMap-nothing f xs (λ a m. h a (List·Memᴰ·tail m))) refl
 
 -- ---- what `isSite` says
 
@@ -59,13 +59,13 @@ has p f = eqb (f .1) p
 
 pub vp-fact : (site : Site) (f : Fact) → IsFact site f → (f .0, f .2) ∈ vp site (f .1)
 unfolding vp
-vp-fact site f m = Memᴰ·map rowOf (into-keep (has (f .1)) m (eq-eqb (f .1) (f .1) refl))
+vp-fact site f m = Memᴰ·map rowOf (into-filter (has (f .1)) m (eq-eqb (f .1) (f .1) refl))
 
 pub fact-vp : (site : Site) (p : ℕ) (r : Row) → r ∈ vp site p → IsFact site (r .0, p, r .1)
 unfolding vp
 fact-vp site p r m =
-    let x = Memᴰ·of-map rowOf (keep (has p) (facts site)) m in
-    let y = from-keep (has p) (facts site) (x .1) in
+    let x = Memᴰ·of-map rowOf (filter (has p) (facts site)) m in
+    let y = from-filter (has p) (facts site) (x .1) in
     let e = eqb-true (x .0 .1) p (y .1) in
     subst (IsFact site) (λ i. (x .2 i .0, e i, x .2 i .1)) (y .0)
 
@@ -75,23 +75,23 @@ fact-vp site p r m =
 abbrev under : ℕ → Table → List Row
 under p t = cond (eqb (t .predicate) p) (t .rows) []
 
-all-or-none : (p : ℕ) (t : Table) → map rowOf (keep (has p) (factsOf t)) ≡ under p t
+all-or-none : (p : ℕ) (t : Table) → map rowOf (filter (has p) (factsOf t)) ≡ under p t
 all-or-none p t = go (eqb (t .predicate) p) refl (t .rows)
   where
     go : (b : Bool) → eqb (t .predicate) p ≡ b → (rows : List Row)
-        → map rowOf (keep (has p) (factsOf (record { predicate = t .predicate; rows = rows }))) ≡ cond b rows []
+        → map rowOf (filter (has p) (factsOf (record { predicate = t .predicate; rows = rows }))) ≡ cond b rows []
     go true e [] = refl
     go true e (r ∷ rs) = rw e (ap (λ (l : List Row). r ∷ l) (go true e rs))
     go false e [] = refl
     go false e (r ∷ rs) = rw e (go false e rs)
 
-vp-each : (site : Site) (p : ℕ) → vp site p ≡ each (under p) site
+vp-concatMap : (site : Site) (p : ℕ) → vp site p ≡ concatMap (under p) site
 unfolding vp facts
-vp-each [] p = refl
-vp-each (t ∷ ts) p = rw (keep-append (has p) (factsOf t) (facts ts), map-append, all-or-none p t, vp-each ts p) refl
+vp-concatMap [] p = refl
+vp-concatMap (t ∷ ts) p = rw (filter-append (has p) (factsOf t) (facts ts), map-append, all-or-none p t, vp-concatMap ts p) refl
 
 pub vp-undeclared : (site : Site) (p : ℕ) → isDeclared site p ≡ false → vp site p ≡ []
-vp-undeclared site p h = vp-each site p ∙ each-nothing (under p) site (λ t m. rw (other t m) refl)
+vp-undeclared site p h = vp-concatMap site p ∙ concatMap-nothing (under p) site (λ t m. rw (other t m) refl)
   where
     other : (t : Table) → t ∈ site → eqb (t .predicate) p ≡ false
     other t m = to-false (eqb (t .predicate) p) (λ e. not-both (into-any (λ u. eqb (u .predicate) p) m e) h)
@@ -105,20 +105,20 @@ later t u ts h m = ltb-true (t .predicate) (u .predicate) (first-before ltb numb
 skipped : (p : ℕ) (t : Table) → (t .predicate ≡ p → ⊥) → under p t ≡ []
 skipped p t h = rw (ne-eqb (t .predicate) p h) refl
 
-each-table : {table : Table} {site : Site} → table ∈ site → ascends ltb (predicates site) ≡ true → each (under (table .predicate)) site ≡ table .rows
-each-table {table} (List·Memᴰ·head {x} {xs} e) h =
+concatMap-table : {table : Table} {site : Site} → table ∈ site → ascends ltb (predicates site) ≡ true → concatMap (under (table .predicate)) site ≡ table .rows
+concatMap-table {table} (List·Memᴰ·head {x} {xs} e) h =
     rw (
       e,
       eq-eqb (x .predicate) (x .predicate) refl,
-      each-nothing (under (x .predicate)) xs (λ u m. skipped (x .predicate) u (λ q. let k = later x u xs h m in omega arith)),
+      concatMap-nothing (under (x .predicate)) xs (λ u m. skipped (x .predicate) u (λ q. let k = later x u xs h m in omega arith)),
     )
     (append-nil (x .rows))
-each-table {table} (List·Memᴰ·tail {x} {xs} m) h =
+concatMap-table {table} (List·Memᴰ·tail {x} {xs} m) h =
     rw (skipped (table .predicate) x (λ q. let k = later x table xs h m in omega arith))
-    (each-table m (ascends-tail ltb numbers (x .predicate) (predicates xs) h))
+    (concatMap-table m (ascends-tail ltb numbers (x .predicate) (predicates xs) h))
 
 pub vp-table : (site : Site) (table : Table) → isSite site ≡ true → table ∈ site → vp site (table .predicate) ≡ table .rows
-vp-table site table h m = vp-each site (table .predicate) ∙ each-table m (proper site h .predicates-ascend)
+vp-table site table h m = vp-concatMap site (table .predicate) ∙ concatMap-table m (proper site h .predicates-ascend)
 
 pub vp-ascends : (site : Site) (p : ℕ) → isSite site ≡ true → ascends rowBefore (vp site p) ≡ true
 vp-ascends site p h = go (bool-cases (isDeclared site p))

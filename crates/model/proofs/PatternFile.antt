@@ -7,7 +7,7 @@ use mathlib.Core.List.{List, [], _∷_, _++_, append-assoc}
 use lib.ListN.{length}
 use lib.Dec.{eqb, ltb, leb}
 use borrow.Author.Tests.{ltb-true, leb-true, eqb-true, eqb-false, eq-eqb, ne-eqb}
-use Rattle.model.specs.Lists.{each}
+use Rattle.model.specs.Lists.{concatMap}
 use Rattle.model.specs.Reader.{gives, after, ask}
 use Rattle.model.specs.Numbers.{areBytes, mostTerm, isTerm, numberBytes, numberLimit}
 use Rattle.model.specs.Site.{Site, isDeclared}
@@ -19,7 +19,7 @@ use Rattle.model.specs.declared.pattern.TriplePattern.{TriplePattern}
 use Rattle.model.proofs.Booleans.{and-cases, and-make}
 use Rattle.model.proofs.Growing.{Grows}
 use Rattle.model.proofs.Readers.{ask-gives, Asks, asked, passes, Front, front-none, front-then, Reads, returned, repeated-read, repeated-written, FileIsExact, file-is-exact}
-use Rattle.model.proofs.Numbers.{number-written, number-gives, bytes-both, bytes-each, number-bytes}
+use Rattle.model.proofs.Numbers.{number-written, number-gives, bytes-both, bytes-concatMap, number-bytes}
 
 -- ---- positions
 
@@ -99,12 +99,12 @@ triple-reads site = record {
 -- ---- all triple patterns
 
 triples-snoc : (site : Site) (n : ℕ) (done : Pattern) (q : TriplePattern)
-    → areTriplePatterns site n (done ++ q ∷ []) ≡ (areTriplePatterns site n done && isTriplePattern site (variables n (each positions done)) q)
+    → areTriplePatterns site n (done ++ q ∷ []) ≡ (areTriplePatterns site n done && isTriplePattern site (variables n (concatMap positions done)) q)
 unfolding areTriplePatterns variables
 triples-snoc site n [] q = and-true (isTriplePattern site n q)
 triples-snoc site n (p ∷ ps) q =
     let m = variables n (positions p) in
-    let last = isTriplePattern site (variables m (each positions ps)) q in
+    let last = isTriplePattern site (variables m (concatMap positions ps)) q in
     rw (triples-snoc site m ps q) (sym (and-assoc (isTriplePattern site n p) (areTriplePatterns site m ps) last))
 
 triples-grow : (site : Site) → Grows (areTriplePatterns site 0) (tripleTest site)
@@ -138,8 +138,8 @@ pattern-back site pattern rest e =
 pattern-bytes : (pattern : Pattern) → areBytes (patternBytes pattern) ≡ true
 unfolding patternBytes
 pattern-bytes pattern =
-    bytes-both (numberBytes (length pattern)) (each triplePatternBytes pattern) (number-bytes (length pattern))
-    (bytes-each triplePatternBytes (λ q. bytes-each positionBytes (λ x. number-bytes (positionNumber x)) (positions q)) pattern)
+    bytes-both (numberBytes (length pattern)) (concatMap triplePatternBytes pattern) (number-bytes (length pattern))
+    (bytes-concatMap triplePatternBytes (λ q. bytes-concatMap positionBytes (λ x. number-bytes (positionNumber x)) (positions q)) pattern)
 
 pub pattern-file : (site : Site) → FileIsExact (readPattern site) patternBytes (isAccepted site)
 unfolding readPattern

@@ -8,7 +8,7 @@ use mathlib.Core.List.{List, [], _∷_, _++_, List·Memᴰ·head, List·Memᴰ·
 use lib.ListN.{length}
 use lib.Dec.{ltb, leb}
 use borrow.Author.Tests.{ltb-true, ltb-false, leb-true}
-use Rattle.model.specs.Lists.{_∈_, each}
+use Rattle.model.specs.Lists.{_∈_, concatMap}
 use Rattle.model.specs.Numbers.{isTerm}
 use Rattle.model.specs.Site.{Site, isDeclared}
 use Rattle.model.specs.Pattern.{Pattern, mostTriplePatterns, mostVariables, positions, variablesWith, variables, width, isPosition, isPredicate, isTriplePattern, areTriplePatterns, isPatternLength, isAccepted}
@@ -16,7 +16,7 @@ use Rattle.model.specs.declared.pattern.Position.{Position}
 use Rattle.model.specs.declared.pattern.Position.the-variants.{Term, Var}
 use Rattle.model.specs.declared.pattern.TriplePattern.{TriplePattern}
 use Rattle.model.proofs.Booleans.{and-cases, bool-cases}
-use Rattle.model.proofs.Membership.{into-each}
+use Rattle.model.proofs.Membership.{into-concatMap}
 
 -- ---- the count of variables
 
@@ -97,12 +97,12 @@ module _ (site : Site) where
       let s = position-limit n (q .subject) (t .subject) k in
       rw (t .counted) (position-limit (variablesWith n (q .subject)) (q .object) (t .object) s)
 
-  limit : (n : ℕ) (qs : Pattern) → areTriplePatterns site n qs ≡ true → n ≤ mostVariables → variables n (each positions qs) ≤ mostVariables
+  limit : (n : ℕ) (qs : Pattern) → areTriplePatterns site n qs ≡ true → n ≤ mostVariables → variables n (concatMap positions qs) ≤ mostVariables
   unfolding areTriplePatterns variables
   limit n [] h k = k
   limit n (q ∷ qs) h k =
       let c = and-cases (isTriplePattern site n q) (areTriplePatterns site (variables n (positions q)) qs) h in
-      rw (variables-append n (positions q) (each positions qs)) (limit (variables n (positions q)) qs (c .1) (triple-limit n q (c .0) k))
+      rw (variables-append n (positions q) (concatMap positions qs)) (limit (variables n (positions q)) qs (c .1) (triple-limit n q (c .0) k))
 
   -- a variable counted at a triple pattern stands in its subject or object
   at-triple : (n v : ℕ) (q : TriplePattern) → TriplePasses site n q → n ≤ v → v < variables n (positions q) → Var v ∈ columns q
@@ -115,12 +115,12 @@ module _ (site : Site) where
           let w : v < variablesWith (variablesWith n (q .subject)) (q .object) = rw (t .counted) at b in
           List·Memᴰ·tail (List·Memᴰ·head (sym (position-next _ v (q .object) (t .object) m w)))
 
-  named : (n v : ℕ) (qs : Pattern) → areTriplePatterns site n qs ≡ true → n ≤ v → v < variables n (each positions qs)
+  named : (n v : ℕ) (qs : Pattern) → areTriplePatterns site n qs ≡ true → n ≤ v → v < variables n (concatMap positions qs)
       → (q : TriplePattern) × (q ∈ qs) × (Var v ∈ columns q)
   unfolding areTriplePatterns variables
   named n v [] h a b = absurd (omega arith)
   named n v (q ∷ qs) h a b =
-      go (bool-cases (ltb v (variables n (positions q)))) (λ m. named (variables n (positions q)) v qs (c .1) m (rw (variables-append n (positions q) (each positions qs)) at b))
+      go (bool-cases (ltb v (variables n (positions q)))) (λ m. named (variables n (positions q)) v qs (c .1) m (rw (variables-append n (positions q) (concatMap positions qs)) at b))
     where
       c : (isTriplePattern site n q ≡ true) × (areTriplePatterns site (variables n (positions q)) qs ≡ true)
       c = and-cases (isTriplePattern site n q) (areTriplePatterns site (variables n (positions q)) qs) h
@@ -174,4 +174,4 @@ module _ (site : Site) (pattern : Pattern) (accepted : isAccepted site pattern �
 -- each variable of a pattern is below V
 pub variable-below : (pattern : Pattern) {q : TriplePattern} {v : ℕ} → q ∈ pattern → Var v ∈ positions q → v < width pattern
 unfolding width
-variable-below pattern m k = variable-counted 0 (each positions pattern) (into-each positions m k)
+variable-below pattern m k = variable-counted 0 (concatMap positions pattern) (into-concatMap positions m k)

@@ -1,5 +1,6 @@
 -- The tables at the places of an accepted pattern, and the rows that a solution has in them.
-use Prim.Native.Nat.{ℕ, zero, suc, _<_}
+use Prim.Native.Nat.{ℕ, zero, suc, _≤_, _<_}
+use native.Mathlib.Omega.{arith}
 use mathlib.Core.Path.{_≡_, refl, sym, ap, _∙_, subst}
 use mathlib.Core.Bool.{true, false, _&&_, not, false≢true}
 use mathlib.Core.List.{List, [], _∷_, List·Memᴰ·not-nil}
@@ -9,8 +10,8 @@ use borrow.Author.Tests.{ltb-true, eqb-true, eq-eqb, not-true}
 use Rattle.model.specs.Lists.{_∈_, ascends}
 use Rattle.model.specs.Site.{Row, rowBefore, Site, isSite, IsFact}
 use Rattle.model.specs.Tables.{Column, subject, object, at, Kind}
-use Rattle.model.specs.Store.{storeAt}
-use Rattle.model.specs.Pattern.{Pattern, isAccepted, noTriplePattern, tripleAt, positionAt, sameVariable, predicateTable, fullTable}
+use Rattle.model.specs.Store.{Store, storeAt}
+use Rattle.model.specs.Pattern.{Pattern, mostTriplePatterns, isAccepted, noTriplePattern, tripleAt, positionAt, sameVariable, predicateTable, fullTable}
 use Rattle.model.specs.Plan.{isPlace, qualifies, reducedTable, partner, kindOf, chosenTable, mayChoose}
 use Rattle.model.specs.Solutions.{value, instance, IsSolution, solutions}
 use Rattle.model.specs.declared.pattern.Position.{Position}
@@ -140,3 +141,11 @@ module _ (site : Site) (pattern : Pattern) (accepted : isAccepted site pattern �
 
   pub empty-full : (i : ℕ) → i < length pattern → fullTable site pattern i ≡ [] → solutions site pattern ≡ []
   empty-full i h e = none λ row s. List·Memᴰ·not-nil (rw e at (row-in-full row s i h))
+
+-- a choice of at most eight places is a byte below 128, so that its number in a file is itself
+pub choice-small : (store : Store) (pattern : Pattern) → length pattern ≤ mostTriplePatterns → (i c : ℕ) → mayChoose store pattern i c ≡ true → c < 128
+unfolding mayChoose
+choice-small store pattern few i zero h = omega arith
+choice-small store pattern few i (suc c) h =
+    let there = qualifying pattern i (partner c) (kindOf c) (and-cases (qualifies pattern i (partner c) (kindOf c)) _ h .0) .there in
+    omega arith

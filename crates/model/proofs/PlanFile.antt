@@ -1,5 +1,5 @@
 -- The plan file: every plan that is read is proper, what is written is read back, and what is accepted is what is written.
-use Prim.Native.Nat.{ℕ, zero, suc, _<_, _≤_}
+use Prim.Native.Nat.{ℕ, _<_, _≤_}
 use native.Mathlib.Omega.{arith}
 use mathlib.Core.Path.{_≡_, refl, sym, _∙_}
 use mathlib.Core.Bool.{Bool, true, false, _&&_, _||_, not, and-false, or-false}
@@ -7,19 +7,19 @@ use mathlib.Core.List.{List, [], _∷_, _++_, append-assoc}
 use lib.ListN.{length}
 use lib.Dec.{eqb}
 use borrow.Author.Tests.{ltb-true, eqb-true, eq-eqb}
-use Rattle.model.specs.Lists.{all, any, each}
+use Rattle.model.specs.Lists.{all, any, concatMap}
 use Rattle.model.specs.Reader.{gives, after, ask, repeated}
 use Rattle.model.specs.Numbers.{areBytes, numberBytes, numberLimit}
 use Rattle.model.specs.Store.{Store}
 use Rattle.model.specs.Pattern.{Pattern, mostTriplePatterns}
-use Rattle.model.specs.Plan.{Step, Plan, isPlace, qualifies, partner, kindOf, mayChoose, placesOf, distinct, isStep, isProper}
+use Rattle.model.specs.Plan.{Step, Plan, isPlace, mayChoose, placesOf, distinct, isStep, isProper}
 use Rattle.model.specs.PlanFile.{step, stepNumbers, readPlan, planBytes}
 use Rattle.model.proofs.Booleans.{and-cases, and-make, bool-ext}
 use Rattle.model.proofs.Membership.{any-append}
 use Rattle.model.proofs.Growing.{Grows, all-grows, both-grow, map-grows}
 use Rattle.model.proofs.Readers.{ask-gives, Front, front-then, Reads, returned, repeated-read, repeated-written, FileIsExact, file-is-exact}
-use Rattle.model.proofs.Numbers.{number-written, number-gives, bytes-each, number-bytes}
-use Rattle.model.proofs.Places.{qualifying}
+use Rattle.model.proofs.Numbers.{number-written, number-gives, bytes-concatMap, number-bytes}
+use Rattle.model.proofs.Places.{choice-small}
 
 -- ---- no number twice
 
@@ -47,7 +47,7 @@ distinct-grows = record { start = refl; snoc = distinct-snoc }
 abbrev stepBytes : Step → List ℕ
 stepBytes x = numberBytes (x .place) ++ numberBytes (x .choice)
 
-plan-bytes : (plan : Plan) → planBytes plan ≡ each stepBytes plan
+plan-bytes : (plan : Plan) → planBytes plan ≡ concatMap stepBytes plan
 unfolding planBytes
 plan-bytes [] = refl
 plan-bytes (x ∷ xs) = rw (plan-bytes xs, append-assoc) refl
@@ -62,12 +62,7 @@ module _ (store : Store) (pattern : Pattern) where
 
   -- a number for each choice that may be
   choice-fits : length pattern ≤ mostTriplePatterns → (i c : ℕ) → mayChoose store pattern i c ≡ true → c < numberLimit
-  unfolding mayChoose
-  choice-fits few i zero e = omega arith
-  choice-fits few i (suc c) e =
-      let q = and-cases (qualifies pattern i (partner c) (kindOf c)) _ e in
-      let l = qualifying pattern i (partner c) (kindOf c) (q .0) .there in
-      omega arith
+  choice-fits few i c e = omega (arith, choice-small store pattern few i c e)
 
   module _ (few : length pattern ≤ mostTriplePatterns) where
     step-reads : Reads (step store pattern) stepBytes stepTest
@@ -110,7 +105,7 @@ module _ (store : Store) (pattern : Pattern) where
 
     plan-is-bytes : (plan : Plan) → areBytes (planBytes plan) ≡ true
     unfolding planBytes
-    plan-is-bytes plan = bytes-each numberBytes number-bytes (each stepNumbers plan)
+    plan-is-bytes plan = bytes-concatMap numberBytes number-bytes (concatMap stepNumbers plan)
 
     pub plan-file : FileIsExact (readPlan store pattern) planBytes (isProper store pattern)
     unfolding readPlan

@@ -8,18 +8,18 @@ use mathlib.Core.List.{List, [], _∷_, List·Memᴰ·head, List·Memᴰ·cases-
 use lib.ListN.{length, getD, length-map}
 use lib.Dec.{eqb}
 use borrow.Author.Tests.{ltb-true, eqb-true, eqb-false, not-true}
-use Rattle.model.specs.Lists.{_∈_, keep, any, all}
+use Rattle.model.specs.Lists.{_∈_, filter, any, all}
 use Rattle.model.specs.Store.{Store}
 use Rattle.model.specs.Pattern.{Pattern}
 use Rattle.model.specs.Plan.{Step, Plan, isPlace, mayChoose, placesOf, distinct, isStep, isProper}
 use Rattle.model.specs.Join.{noStep}
 use Rattle.model.proofs.Booleans.{and-cases, and-make, bool-cases, to-false, not-both}
-use Rattle.model.proofs.Membership.{from-keep, from-any, into-any, from-all, at-place, place-of, keep-all}
+use Rattle.model.proofs.Membership.{from-filter, from-any, into-any, from-all, at-place, place-of, filter-all}
 
 -- ---- distinct numbers below n are at most n
 
 abbrev others : ℕ → List ℕ → List ℕ
-others x l = keep (λ y. not (eqb x y)) l
+others x l = filter (λ y. not (eqb x y)) l
 
 others-distinct : (x : ℕ) (l : List ℕ) → distinct l ≡ true → distinct (others x l) ≡ true
 others-distinct x [] h = refl
@@ -33,7 +33,7 @@ others-distinct x (y ∷ ys) h = go (not (eqb x y)) (others-distinct x ys (c .1)
         to-false (any (eqb y) (others x ys))
         λ k.
         let z = from-any (eqb y) (others x ys) k in
-        not-both (into-any (eqb y) (from-keep (λ w. not (eqb x w)) ys (z .1) .0) (z .2)) (not-true (any (eqb y) ys) (c .0))
+        not-both (into-any (eqb y) (from-filter (λ w. not (eqb x w)) ys (z .1) .0) (z .2)) (not-true (any (eqb y) ys) (c .0))
 
     go : (b : Bool) → distinct (others x ys) ≡ true → distinct (cond b (y ∷ others x ys) (others x ys)) ≡ true
     go true i = and-make {a = not (any (eqb y) (others x ys))} (rw absent refl) i
@@ -48,7 +48,7 @@ others-length x (y ∷ ys) h = go (bool-cases (eqb x y)) (others-length x ys (c 
     c = and-cases (not (any (eqb y) ys)) (distinct ys) h
 
     kept : any (eqb x) ys ≡ false → others x ys ≡ ys
-    kept e = keep-all (λ z. not (eqb x z)) ys (λ z m. ap not (to-false (eqb x z) (λ k. not-both (into-any (eqb x) m k) e)))
+    kept e = filter-all (λ z. not (eqb x z)) ys (λ z m. ap not (to-false (eqb x z) (λ k. not-both (into-any (eqb x) m k) e)))
 
     go : (eqb x y ≡ true) ⊎ (eqb x y ≡ false) → length ys ≤ suc (length (others x ys)) → length (y ∷ ys) ≤ suc (length (others x (y ∷ ys)))
     go (inl e) i =
@@ -66,7 +66,7 @@ distinct-limit (suc n) l h b =
   where
     smaller : (x : ℕ) → x ∈ others n l → x < n
     smaller x m =
-        let k = from-keep (λ y. not (eqb n y)) l m in
+        let k = from-filter (λ y. not (eqb n y)) l m in
         let a = b x (k .0) in
         let d : n ≢ x = eqb-false n x (not-true (eqb n x) (k .1)) in
         omega arith

@@ -12,7 +12,7 @@ use Rattle.model.specs.Pattern.{Pattern, places}
 use Rattle.model.specs.Plan.{Step, mayChoose, placesOf, distinct, isStep, isProper}
 use Rattle.model.specs.Planner.{without, order, planned}
 use Rattle.model.proofs.Booleans.{and-make, not-both, to-false}
-use Rattle.model.proofs.Membership.{from-keep, from-any, into-all}
+use Rattle.model.proofs.Membership.{from-filter, from-any, into-all}
 use Rattle.model.proofs.Below.{from-below}
 use Rattle.model.proofs.Choosing.{chosen-table}
 use Rattle.model.proofs.Ordering.{Ordered, from-ordered, ordered}
@@ -27,7 +27,7 @@ module _ (store : Store) (pattern : Pattern) where
       again : any (eqb i) is ≡ true → ⊥
       again e =
           let r = from-any (eqb i) is e in
-          let k = from-keep (λ j. not (eqb j i)) remaining (from-ordered store pattern (taken ++ i ∷ []) (without i remaining) is (o .1) (r .1)) .1 in
+          let k = from-filter (λ j. not (eqb j i)) remaining (from-ordered store pattern (taken ++ i ∷ []) (without i remaining) is (o .1) (r .1)) .1 in
           not-both (eq-eqb (r .0) i (sym (eqb-true i (r .0) (r .2)))) (not-true (eqb (r .0) i) k)
 
   order-length : (n : ℕ) (taken remaining : List ℕ) → length (order store pattern n taken remaining) ≡ n

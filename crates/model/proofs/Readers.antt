@@ -7,7 +7,7 @@ use mathlib.Core.List.{List, [], _∷_, _++_, append-nil, append-assoc}
 use lib.ListN.{length, length-append}
 use lib.Seq.{append-snoc}
 use lib.Dec.{ltb}
-use Rattle.model.specs.Lists.{each, isEmpty}
+use Rattle.model.specs.Lists.{concatMap, isEmpty}
 use Rattle.model.specs.Reader.{Reply, refused, gives, Reader, after, ask, allRead, wholeFile, repeated}
 use Rattle.model.specs.Numbers.{areBytes}
 use Rattle.model.proofs.Booleans.{and-cases}
@@ -90,7 +90,7 @@ record Behind {A : Type 0} (write : A → List ℕ) (good : List A → Bool) (k 
   behind : y .0 ≡ done ++ elements
   count : length elements ≡ k
   accepted : good (y .0) ≡ true
-  front : Front bytes (each write elements) (y .1)
+  front : Front bytes (concatMap write elements) (y .1)
 
 module _ {A : Type 0} {one : List A → Reader A} {write : A → List ℕ} {good : List A → Bool} {test : List A → A → Bool}
     (reads : Reads one write test) (grows : Grows good test) where
@@ -113,20 +113,20 @@ module _ {A : Type 0} {one : List A → Reader A} {write : A → List ℕ} {good
       }
 
   pub repeated-read : (k : ℕ) (bytes : List ℕ) {xs : List A} {rest : List ℕ} → repeated one k [] bytes ≡ gives (xs, rest)
-      → (length xs ≡ k) × (good xs ≡ true) × Front bytes (each write xs) rest
+      → (length xs ≡ k) × (good xs ≡ true) × Front bytes (concatMap write xs) rest
   repeated-read k bytes h =
       let r = behind-read k [] bytes (grows .start) h in
       (rw (r .behind) (r .count), r .accepted, rw (r .behind) (r .front))
 
   behind-written : (more done : List A) (rest : List ℕ) → good (done ++ more) ≡ true
-      → repeated one (length more) done (each write more ++ rest) ≡ gives (done ++ more, rest)
+      → repeated one (length more) done (concatMap write more ++ rest) ≡ gives (done ++ more, rest)
   unfolding repeated after
   behind-written [] done rest g = rw append-nil refl
   behind-written (x ∷ more) done rest g =
-      let first = reads .written done x (each write more ++ rest) (passed-inside grows done x more g) in
+      let first = reads .written done x (concatMap write more ++ rest) (passed-inside grows done x more g) in
       rw (append-assoc, ← append-snoc, first) (behind-written more (done ++ x ∷ []) rest (rw append-snoc g))
 
-  pub repeated-written : (xs : List A) (rest : List ℕ) → good xs ≡ true → repeated one (length xs) [] (each write xs ++ rest) ≡ gives (xs, rest)
+  pub repeated-written : (xs : List A) (rest : List ℕ) → good xs ≡ true → repeated one (length xs) [] (concatMap write xs ++ rest) ≡ gives (xs, rest)
   repeated-written xs rest g = behind-written xs [] rest g
 
 -- ---- a whole file

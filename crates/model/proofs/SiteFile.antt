@@ -8,15 +8,15 @@ use lib.ListN.{length, length-map}
 use lib.Seq.{append-snoc}
 use lib.Dec.{ltb, leb}
 use borrow.Author.Tests.{leb-true}
-use Rattle.model.specs.Lists.{all, each, sum, ascends, aboveLast}
+use Rattle.model.specs.Lists.{all, concatMap, sum, ascends, aboveLast}
 use Rattle.model.specs.Reader.{gives, after, ask, repeated}
 use Rattle.model.specs.Numbers.{areBytes, isTerm, numberBytes}
 use Rattle.model.specs.Site.{Row, rowBefore, Table, Site, mostPredicates, mostRows, rowTotal, predicatesProper, rowsProper, isSite}
-use Rattle.model.specs.SiteFile.{Declaration, declaredTerms, declaredTotal, declaredProper, declaration, row, tables, siteFile, readSite, declarationBytes, rowBytes, declarationOf, siteBytes}
+use Rattle.model.specs.SiteFile.{Declaration, declaredTerms, declaredTotal, declaredProper, declaration, row, tables, siteFile, readSite, declarationBytes, rowBytes, declarationOf, siteBytes, declarations}
 use Rattle.model.proofs.Booleans.{and-cases, and-make}
 use Rattle.model.proofs.Growing.{Grows, all-grows, ascends-grows, both-grow, map-grows, sum-grows}
 use Rattle.model.proofs.Readers.{after-gives, ask-gives, Front, front-none, front-then, Reads, returned, repeated-read, repeated-written, FileIsExact, file-is-exact}
-use Rattle.model.proofs.Numbers.{number-written, number-gives, term-fits, bytes-both, bytes-each, number-bytes}
+use Rattle.model.proofs.Numbers.{number-written, number-gives, term-fits, bytes-both, bytes-concatMap, number-bytes}
 
 -- ---- general
 
@@ -86,15 +86,15 @@ declaration-reads = record {
 -- ---- tables
 
 abbrev tableBytes : Table → List ℕ
-tableBytes t = each rowBytes (t .rows)
+tableBytes t = concatMap rowBytes (t .rows)
 
 -- tables were read behind those done
 record TablesRead (ds : List Declaration) (done : Site) (bytes : List ℕ) (y : Site × List ℕ) : Type 0 where
   tables-behind : Site
   behind : y .0 ≡ done ++ tables-behind
-  declared : map declarationOf tables-behind ≡ ds
+  declared : declarations tables-behind ≡ ds
   proper : all (λ t. rowsProper (t .rows)) tables-behind ≡ true
-  front : Front bytes (each tableBytes tables-behind) (y .1)
+  front : Front bytes (concatMap tableBytes tables-behind) (y .1)
 
 tables-read : (ds : List Declaration) (done : Site) (bytes : List ℕ) {y : Site × List ℕ} → tables ds done bytes ≡ gives y → TablesRead ds done bytes y
 unfolding tables
@@ -116,24 +116,24 @@ tables-read (d ∷ ds) done bytes h =
     }
 
 pub all-tables-read : (ds : List Declaration) (bytes : List ℕ) {site : Site} {rest : List ℕ} → tables ds [] bytes ≡ gives (site, rest)
-    → (map declarationOf site ≡ ds) × (all (λ t. rowsProper (t .rows)) site ≡ true) × Front bytes (each tableBytes site) rest
+    → (declarations site ≡ ds) × (all (λ t. rowsProper (t .rows)) site ≡ true) × Front bytes (concatMap tableBytes site) rest
 all-tables-read ds bytes h =
     let r = tables-read ds [] bytes h in
     (rw (r .behind) (r .declared), rw (r .behind) (r .proper), rw (r .behind) (r .front))
 
 tables-written : (more done : Site) (rest : List ℕ) → all (λ t. rowsProper (t .rows)) more ≡ true
-    → tables (map declarationOf more) done (each tableBytes more ++ rest) ≡ gives (done ++ more, rest)
+    → tables (declarations more) done (concatMap tableBytes more ++ rest) ≡ gives (done ++ more, rest)
 unfolding tables after
 tables-written [] done rest g = rw append-nil refl
 tables-written (t ∷ more) done rest g =
     let c = and-cases (rowsProper (t .rows)) (all (λ t. rowsProper (t .rows)) more) g in
-    rw (append-assoc, ← append-snoc, repeated-written row-reads rows-grow (t .rows) (each tableBytes more ++ rest) (c .0))
+    rw (append-assoc, ← append-snoc, repeated-written row-reads rows-grow (t .rows) (concatMap tableBytes more ++ rest) (c .0))
     (tables-written more (done ++ t ∷ []) rest (c .1))
 
 -- ---- the file
 
 -- what is asked of the declarations is what a site is asked for them
-pub declared-site : (site : Site) → declaredProper (map declarationOf site) ≡ (predicatesProper site && leb (rowTotal site) mostRows)
+pub declared-site : (site : Site) → declaredProper (declarations site) ≡ (predicatesProper site && leb (rowTotal site) mostRows)
 declared-site site = rw (map-map, all-map, sum-map) refl
 
 site-read : (bytes : List ℕ) {site : Site} {rest : List ℕ} → siteFile bytes ≡ gives (site, rest)
@@ -162,7 +162,7 @@ site-back site rest e =
     let b = and-cases (predicatesProper site) rows (c .1) in
     let l = leb-true (length site) mostPredicates (a .0) in
     let g = declared-site site ∙ and-make (b .0) (a .1) in
-    let read = rw length-map at (repeated-written declaration-reads declared-grow (map declarationOf site) (each tableBytes site ++ rest) g) in
+    let read = rw length-map at (repeated-written declaration-reads declared-grow (declarations site) (concatMap tableBytes site ++ rest) g) in
     rw (append-assoc, number-written 2 (length site) _ (omega arith), a .0, append-assoc, read) (tables-written site [] rest (b .1))
 
 -- what is written is bytes
@@ -170,9 +170,9 @@ site-bytes : (site : Site) → areBytes (siteBytes site) ≡ true
 unfolding siteBytes
 site-bytes site =
     bytes-both (numberBytes (length site)) _ (number-bytes (length site))
-    (bytes-both (each declarationBytes (map declarationOf site)) (each tableBytes site)
-    (bytes-each declarationBytes (λ d. bytes-both (numberBytes (d .0)) (numberBytes (d .1)) (number-bytes (d .0)) (number-bytes (d .1))) (map declarationOf site))
-    (bytes-each tableBytes (λ t. bytes-each rowBytes (λ r. bytes-both (numberBytes (r .0)) (numberBytes (r .1)) (number-bytes (r .0)) (number-bytes (r .1))) (t .rows)) site))
+    (bytes-both (concatMap declarationBytes (declarations site)) (concatMap tableBytes site)
+    (bytes-concatMap declarationBytes (λ d. bytes-both (numberBytes (d .0)) (numberBytes (d .1)) (number-bytes (d .0)) (number-bytes (d .1))) (declarations site))
+    (bytes-concatMap tableBytes (λ t. bytes-concatMap rowBytes (λ r. bytes-both (numberBytes (r .0)) (numberBytes (r .1)) (number-bytes (r .0)) (number-bytes (r .1))) (t .rows)) site))
 
 pub site-file : FileIsExact readSite siteBytes isSite
 unfolding readSite

@@ -6,11 +6,12 @@ use mathlib.Core.Path.{_≡_, refl, sym, ap, _∙_}
 use mathlib.Core.Bool.{Bool, true, false, cond}
 use mathlib.Core.List.{List, [], _∷_, _++_, map, append-assoc, append-nil}
 use lib.ListN.{length, getD, take, drop, length-append, List·getD-map}
-use Rattle.model.specs.Lists.{each, sum}
+use Rattle.model.specs.SiteFile.{declarations}
+use Rattle.model.specs.Lists.{concatMap, sum}
 use Rattle.model.specs.Site.{Row, Table, Site, noTable, tableAt}
 use Rattle.model.specs.Tables.{Kind, kinds, kindCount, kindAt, semiJoin, isStored}
-use Rattle.model.specs.Store.{Reduced, semiJoins, isKept, kept, tableWords, vpEntries, semiJoinEntries, rowsStart, vpEntryAt, semiJoinEntryAt, storedStart, vpWords, keptWords, layout, wordsUsed}
-use Rattle.model.proofs.Blocks.{Block, element-block, block-at, inner-block, take-block, getD-block, head-block, each-block, length-each, equal-block}
+use Rattle.model.specs.Store.{Reduced, semiJoins, isStoredTable, storedRows, tableWords, vpEntries, semiJoinEntries, rowsStart, vpEntryAt, semiJoinEntryAt, storedStart, vpWords, storedWords, layout, wordsUsed}
+use Rattle.model.proofs.Blocks.{Block, element-block, block-at, inner-block, take-block, getD-block, head-block, concatMap-block, length-concatMap, equal-block}
 
 -- ---- entries, each with the start of its rows, and the rows
 
@@ -21,7 +22,7 @@ length-table (r ∷ rs) = let e = length-table rs in omega arith
 module _ {A : Type 0} (rows : A → List Row) where
   -- the words of all rows, and how many they are
   abbrev allWords : List A → List ℕ
-  allWords xs = each (λ x. tableWords (rows x)) xs
+  allWords xs = concatMap (λ x. tableWords (rows x)) xs
 
   abbrev size : List A → ℕ
   size xs = 2 * sum (λ x. length (rows x)) xs
@@ -31,7 +32,7 @@ module _ {A : Type 0} (rows : A → List Row) where
   length-all (x ∷ xs) = let e = length-all xs in let f = length-table (rows x) in rw length-append (omega arith)
 
   rows-block : {xs : List A} {i : ℕ} {x : A} (b : Block xs i (x ∷ [])) → Block (allWords xs) (size (b .before)) (tableWords (rows x))
-  rows-block b = block-at (length-all (b .before)) (each-block (λ x. tableWords (rows x)) b)
+  rows-block b = block-at (length-all (b .before)) (concatMap-block (λ x. tableWords (rows x)) b)
 
   module _ (entry : ℕ → A → List ℕ) where
     -- the first rows start at `here`
@@ -67,18 +68,17 @@ module _ {A : Type 0} (rows : A → List Row) where
 abbrev pub vpEntry : ℕ → Table → List ℕ
 vpEntry here x = x .predicate ∷ length (x .rows) ∷ here ∷ []
 
-pub vp-entries : (here : ℕ) (site : Site) → vpEntries here site ≡ entries (λ x. x .rows) vpEntry here site
-unfolding vpEntries
+pub vp-entries : (here : ℕ) (site : Site) → vpEntries here (declarations site) ≡ entries (λ x. x .rows) vpEntry here site
 vp-entries here [] = refl
 vp-entries here (x ∷ xs) = rw (vp-entries (here + 2 * length (x .rows)) xs) refl
 
 abbrev pub semiJoinEntry : ℕ → ℕ → Reduced → List ℕ
-semiJoinEntry t here x = length (x .rows) ∷ cond (isKept t x) here 0 ∷ []
+semiJoinEntry t here x = length (x .rows) ∷ cond (isStoredTable t x) here 0 ∷ []
 
-pub semi-join-entries : (t here : ℕ) (xs : List Reduced) → semiJoinEntries t here xs ≡ entries (kept t) (semiJoinEntry t) here xs
+pub semi-join-entries : (t here : ℕ) (xs : List Reduced) → semiJoinEntries t here xs ≡ entries (storedRows t) (semiJoinEntry t) here xs
 unfolding semiJoinEntries
 semi-join-entries t here [] = refl
-semi-join-entries t here (x ∷ xs) = rw (semi-join-entries t (here + 2 * length (kept t x)) xs) refl
+semi-join-entries t here (x ∷ xs) = rw (semi-join-entries t (here + 2 * length (storedRows t x)) xs) refl
 
 -- ---- the semi-joins
 
@@ -90,14 +90,14 @@ abbrev against : Table → Table → List Reduced
 against p q = map (reduced p q) kinds
 
 abbrev pub againstAll : Site → Table → List Reduced
-againstAll site p = each (against p) site
+againstAll site p = concatMap (against p) site
 
 length-against-all : (site : Site) (p : Table) → length (againstAll site p) ≡ length site * kindCount
-length-against-all site p = length-each (against p) kindCount (λ q. refl) site
+length-against-all site p = length-concatMap (against p) kindCount (λ q. refl) site
 
 pub length-semi-joins : (site : Site) → length (semiJoins site) ≡ length site * (length site * kindCount)
 unfolding semiJoins
-length-semi-joins site = length-each (againstAll site) (length site * kindCount) (length-against-all site) site
+length-semi-joins site = length-concatMap (againstAll site) (length site * kindCount) (length-against-all site) site
 
 kind-block : (p q : Table) (k : ℕ) → k < kindCount → Block (against p q) k (reduced p q (kindAt k) ∷ [])
 kind-block p q k h = rw (← (List·getD-map (reduced p q) kinds k (kindAt 0))) (element-block (reduced p q (kindAt 0)) (against p q) k h)
@@ -113,12 +113,12 @@ semi-join-block site i j k hi hj hk =
 
 -- ---- the parts of the layout
 
-pub length-vp-entries : (here : ℕ) (site : Site) → length (vpEntries here site) ≡ 3 * length site
+pub length-vp-entries : (here : ℕ) (site : Site) → length (vpEntries here (declarations site)) ≡ 3 * length site
 length-vp-entries here site = rw (vp-entries here site) (length-entries (λ x. x .rows) vpEntry 3 (λ here x. refl) here site)
 
 pub length-semi-join-entries : (t here : ℕ) (site : Site) → length (semiJoinEntries t here (semiJoins site)) ≡ 2 * (length site * (length site * kindCount))
 length-semi-join-entries t here site =
-    rw (semi-join-entries t here (semiJoins site), ← (length-semi-joins site)) (length-entries (kept t) (semiJoinEntry t) 2 (λ here x. refl) here (semiJoins site))
+    rw (semi-join-entries t here (semiJoins site), ← (length-semi-joins site)) (length-entries (storedRows t) (semiJoinEntry t) 2 (λ here x. refl) here (semiJoins site))
 
 -- the rows that a semi-join of two places leaves
 abbrev pub leftAt : Site → ℕ → ℕ → ℕ → List Row
@@ -134,10 +134,10 @@ module _ (t : ℕ) (site : Site) where
 
   -- P; T; words used
   abbrev first : List ℕ
-  first = length site ∷ t ∷ (storedStart site + length (keptWords t (semiJoins site))) ∷ []
+  first = length site ∷ t ∷ (storedStart site + length (storedWords t (semiJoins site))) ∷ []
 
   abbrev entriesOfVp : List ℕ
-  entriesOfVp = vpEntries (rowsStart (length site)) site
+  entriesOfVp = vpEntries (rowsStart (length site)) (declarations site)
 
   abbrev entriesOfSemiJoins : List ℕ
   entriesOfSemiJoins = semiJoinEntries t (storedStart site) (semiJoins site)
@@ -153,21 +153,21 @@ module _ (t : ℕ) (site : Site) where
       simp length-append (omega arith)
 
   -- all before the stored tables' rows
-  pub length-before-kept : length (front ++ vpWords site) ≡ storedStart site
-  length-before-kept = rw (length-append front (vpWords site), length-front, length-all (λ x. x .rows) site) refl
+  pub length-before-stored : length (front ++ vpWords site) ≡ storedStart site
+  length-before-stored = rw (length-append front (vpWords site), length-front, length-all (λ x. x .rows) site) refl
 
   pub layout-used : wordsUsed words ≡ length words
   unfolding layout
   layout-used =
-      let ks = keptWords t (semiJoins site) in
+      let ks = storedWords t (semiJoins site) in
       let e : words ≡ (front ++ vpWords site) ++ ks = simp append-assoc in
-      sym (ap length e ∙ length-append (front ++ vpWords site) ks ∙ ap (λ (k : ℕ). k + length ks) length-before-kept)
+      sym (ap length e ∙ length-append (front ++ vpWords site) ks ∙ ap (λ (k : ℕ). k + length ks) length-before-stored)
 
   pub vp-entries-block : Block words 3 entriesOfVp
   unfolding layout
   vp-entries-block = record { before = first; after = _; whole = refl; length-before = refl }
 
-  semi-join-entries-block : Block words (3 + 3 * length site) entriesOfSemiJoins
+  semi-join-entries-block : Block words (vpEntryAt (length site)) entriesOfSemiJoins
   unfolding layout
   semi-join-entries-block = record {
     before = first ++ entriesOfVp;
@@ -178,11 +178,11 @@ module _ (t : ℕ) (site : Site) where
 
   pub vp-words-block : Block words (rowsStart (length site)) (vpWords site)
   unfolding layout
-  vp-words-block = record { before = front; after = keptWords t (semiJoins site); whole = simp append-assoc; length-before = length-front }
+  vp-words-block = record { before = front; after = storedWords t (semiJoins site); whole = simp append-assoc; length-before = length-front }
 
-  kept-words-block : Block words (storedStart site) (keptWords t (semiJoins site))
+  stored-words-block : Block words (storedStart site) (storedWords t (semiJoins site))
   unfolding layout
-  kept-words-block = record { before = front ++ vpWords site; after = []; whole = simp (append-assoc, append-nil); length-before = length-before-kept }
+  stored-words-block = record { before = front ++ vpWords site; after = []; whole = simp (append-assoc, append-nil); length-before = length-before-stored }
 
   -- ---- the entries
 
@@ -211,11 +211,11 @@ module _ (t : ℕ) (site : Site) where
     pub not-stored : isStoredAt i j k ≡ false → getD words (semiJoinEntryAt (length site) i j k + 1) 0 ≡ 0
 
   pub semi-join-entry : (i j k : ℕ) → i < length site → j < length site → k < kindCount → SemiJoinEntry i j k
-  unfolding kept
+  unfolding storedRows
   semi-join-entry i j k hi hj hk =
       let x = reduced (tableAt site i) (tableAt site j) (kindAt k) in
       let es = rw (semi-join-entries t (storedStart site) (semiJoins site)) at semi-join-entries-block in
-      let (start, found, rows) = entry-and-rows (kept t) (semiJoinEntry t) 2 (λ here x. refl) es kept-words-block (semi-join-block site i j k hi hj hk) in
+      let (start, found, rows) = entry-and-rows (storedRows t) (semiJoinEntry t) 2 (λ here x. refl) es stored-words-block (semi-join-block site i j k hi hj hk) in
       let entry : Block words (semiJoinEntryAt (length site) i j k) (semiJoinEntry t start x) = block-at (omega arith) found in
       let second = getD-block entry 1 0 (omega arith) in
       record {
@@ -226,10 +226,10 @@ module _ (t : ℕ) (site : Site) where
 
 -- ---- the whole
 
-pub length-layout : (t : ℕ) (site : Site) → length (layout t site) ≡ storedStart site + length (keptWords t (semiJoins site))
+pub length-layout : (t : ℕ) (site : Site) → length (layout t site) ≡ storedStart site + length (storedWords t (semiJoins site))
 unfolding layout
 length-layout t site = sym (layout-used t site)
 
-pub layout-parts : (t : ℕ) (site : Site) → layout t site ≡ (front t site ++ vpWords site) ++ keptWords t (semiJoins site)
+pub layout-parts : (t : ℕ) (site : Site) → layout t site ≡ (front t site ++ vpWords site) ++ storedWords t (semiJoins site)
 unfolding layout
 layout-parts t site = simp append-assoc

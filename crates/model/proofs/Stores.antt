@@ -10,6 +10,7 @@ use lib.ListN.{length, getD, take, drop, take-append-drop}
 use lib.Seq.{take-at, drop-at}
 use lib.Dec.{eqb, leb}
 use borrow.Author.Tests.{eqb-true, leb-true, le-leb, eq-eqb}
+use Rattle.model.specs.SiteFile.{declarations}
 use Rattle.model.specs.Lists.{sameWords}
 use Rattle.model.specs.Site.{Row, Site, rowTotal, mostRows, isSite}
 use Rattle.model.specs.Tables.{mostThreshold}
@@ -57,8 +58,8 @@ pub rows-back : (rows : List Row) (rest : List ℕ) → rowsIn (length rows) (ta
 rows-back [] rest = refl
 rows-back (r ∷ rs) rest = ap (λ (l : List Row). r ∷ l) (rows-back rs rest)
 
-pub tables-back : (here : ℕ) (site : Site) (more rest : List ℕ) → rowTotal site ≤ mostRows → tablesIn (length site) (vpEntries here site ++ more) (vpWords site ++ rest) ≡ site
-unfolding tablesIn vpEntries
+pub tables-back : (here : ℕ) (site : Site) (more rest : List ℕ) → rowTotal site ≤ mostRows → tablesIn (length site) (vpEntries here (declarations site) ++ more) (vpWords site ++ rest) ≡ site
+unfolding tablesIn
 tables-back here [] more rest h = refl
 tables-back here (t ∷ ts) more rest h =
     let few : length (t .rows) ≤ mostRows = omega arith in

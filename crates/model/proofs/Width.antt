@@ -7,19 +7,19 @@ use mathlib.Core.List.{[], List·Memᴰ·head, List·Memᴰ·tail}
 use lib.ListN.{length}
 use lib.Dec.{ltb}
 use borrow.Author.Tests.{ltb-true, ltb-false, lt-ltb, eqb-true, eq-eqb}
-use Rattle.model.specs.Lists.{_∈_, keep, any, each, countUp, below}
+use Rattle.model.specs.Lists.{_∈_, filter, any, concatMap, countUp, below}
 use Rattle.model.specs.Site.{Site}
 use Rattle.model.specs.Pattern.{Pattern, mostVariables, positions, width, isAccepted, sameVariable}
 use Rattle.model.specs.declared.pattern.Position.{Position}
 use Rattle.model.specs.declared.pattern.Position.the-variants.{Term, Var}
 use Rattle.model.specs.declared.pattern.TriplePattern.{TriplePattern}
 use Rattle.model.proofs.Booleans.{bool-ext}
-use Rattle.model.proofs.Membership.{from-any, into-any, into-each, from-each}
+use Rattle.model.proofs.Membership.{from-any, into-any, into-concatMap, from-concatMap}
 use Rattle.model.proofs.Patterns.{columns, width-limit, variable-named, variable-below}
 
 -- the variable stands in the pattern
 abbrev pub stands : Pattern → ℕ → Bool
-stands pattern v = any (sameVariable (Var v)) (each positions pattern)
+stands pattern v = any (sameVariable (Var v)) (concatMap positions pattern)
 
 pub is-variable : (v : ℕ) (x : Position) → sameVariable (Var v) x ≡ true → Var v ≡ x
 is-variable v (Term t) h = absurd (false≢true h)
@@ -31,8 +31,8 @@ module _ (site : Site) (pattern : Pattern) (accepted : isAccepted site pattern �
     where
       into : stands pattern v ≡ true → ltb v (width pattern) ≡ true
       into h =
-          let x = from-any (sameVariable (Var v)) (each positions pattern) h in
-          let q = from-each positions pattern (x .1) in
+          let x = from-any (sameVariable (Var v)) (concatMap positions pattern) h in
+          let q = from-concatMap positions pattern (x .1) in
           let m : Var v ∈ positions (q .0) = subst (λ y. y ∈ positions (q .0)) (sym (is-variable v (x .0) (x .2))) (q .2) in
           lt-ltb v (width pattern) (variable-below pattern (q .1) m)
 
@@ -43,20 +43,20 @@ module _ (site : Site) (pattern : Pattern) (accepted : isAccepted site pattern �
       from : ltb v (width pattern) ≡ true → stands pattern v ≡ true
       from h =
           let q = variable-named site pattern accepted v (ltb-true v (width pattern) h) in
-          into-any (sameVariable (Var v)) (into-each positions (q .1) (in-positions (q .0) (q .2))) (eq-eqb v v refl)
+          into-any (sameVariable (Var v)) (into-concatMap positions (q .1) (in-positions (q .0) (q .2))) (eq-eqb v v refl)
 
-  counted : (a k : ℕ) → a ≤ width pattern → width pattern ≤ a + k → a + length (keep (stands pattern) (countUp a k)) ≡ width pattern
+  counted : (a k : ℕ) → a ≤ width pattern → width pattern ≤ a + k → a + length (filter (stands pattern) (countUp a k)) ≡ width pattern
   counted a zero l h = omega arith
   counted a (suc k) l h = go (ltb a (width pattern)) refl (λ m. counted (suc a) k m (omega arith))
     where
-      none : (b n : ℕ) → width pattern ≤ b → keep (stands pattern) (countUp b n) ≡ []
+      none : (b n : ℕ) → width pattern ≤ b → filter (stands pattern) (countUp b n) ≡ []
       none b zero m = refl
       none b (suc n) m = rw (stands-below b, borrow.Author.Tests.le-ltb b (width pattern) m) (none (suc b) n (omega arith))
 
-      go : (b : Bool) → ltb a (width pattern) ≡ b → (suc a ≤ width pattern → suc a + length (keep (stands pattern) (countUp (suc a) k)) ≡ width pattern)
-          → a + length (keep (stands pattern) (countUp a (suc k))) ≡ width pattern
+      go : (b : Bool) → ltb a (width pattern) ≡ b → (suc a ≤ width pattern → suc a + length (filter (stands pattern) (countUp (suc a) k)) ≡ width pattern)
+          → a + length (filter (stands pattern) (countUp a (suc k))) ≡ width pattern
       go true e rest = let r = rest (ltb-true a (width pattern) e) in rw (stands-below a, e) (omega arith)
       go false e rest = let m = ltb-false a (width pattern) e in rw (none a (suc k) m) (omega arith)
 
-  pub width-counts : width pattern ≡ length (keep (stands pattern) (below mostVariables))
+  pub width-counts : width pattern ≡ length (filter (stands pattern) (below mostVariables))
   width-counts = let e = counted 0 mostVariables (omega arith) (let k = width-limit site pattern accepted in omega arith) in omega arith

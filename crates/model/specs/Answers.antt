@@ -4,7 +4,7 @@ use mathlib.Core.Path.{_≡_}
 use mathlib.Core.Logic.{_⊎_}
 use mathlib.Core.List.{List}
 use lib.ListN.{length, replicate}
-use Rattle.model.specs.Lists.{each}
+use Rattle.model.specs.Lists.{concatMap}
 use Rattle.model.specs.Reader.{gives}
 use Rattle.model.specs.Site.{Site}
 use Rattle.model.specs.SiteFile.{readSite}
@@ -49,4 +49,4 @@ RunAnswer words bytes memory o =
     ⊎ (((c : Accepted words bytes) × (o ≡ outcome None memory) × ((row : List ℕ) → IsSolution (c .store .site) (c .pattern) row → ⊥))
     ⊎ ((c : Accepted words bytes) × (1 ≤ length (solutions (c .store .site) (c .pattern)))
     × (o ≡ outcome (Rows (length (solutions (c .store .site) (c .pattern))) (width (c .pattern)))
-    (over (each (λ row. row) (solutions (c .store .site) (c .pattern))) memory))))
+    (over (concatMap (λ row. row) (solutions (c .store .site) (c .pattern))) memory))))

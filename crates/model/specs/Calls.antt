@@ -5,7 +5,7 @@ use mathlib.Core.Option.{Option, none, some}
 use mathlib.Core.List.{List, [], _∷_, _++_}
 use lib.ListN.{length, take, drop, replicate}
 use lib.Dec.{eqb, leb}
-use Rattle.model.specs.Lists.{any, each}
+use Rattle.model.specs.Lists.{any, concatMap}
 use Rattle.model.specs.Reader.{Reply, refused, gives}
 use Rattle.model.specs.Site.{Site}
 use Rattle.model.specs.SiteFile.{readSite}
@@ -77,7 +77,7 @@ padded n xs = take n (xs ++ replicate n 0)
 
 -- two numbers for each of at most eight steps, and the count of steps; steps past the count are 0
 abbrev pub planNumbers : Plan → PlanNumbers
-planNumbers plan = record { steps = padded (2 * mostTriplePatterns) (each stepNumbers plan); count = length plan }
+planNumbers plan = record { steps = padded (2 * mostTriplePatterns) (concatMap stepNumbers plan); count = length plan }
 
 abbrev pub withPlan : Answer → Plan → Planned
 withPlan answer plan = record { answer = answer; plan = planNumbers plan }
@@ -104,7 +104,7 @@ unfoldable pub rowsOutcome : ℕ → List (List ℕ) → List ℕ → Outcome
 rowsOutcome v [] memory = outcome None memory
 rowsOutcome v (r ∷ rs) memory =
     either (unaltered memory) (question 21 (leb (length (r ∷ rs) * v) (length memory))) λ _.
-    outcome (Rows (length (r ∷ rs)) v) (over (each (λ x. x) (r ∷ rs)) memory)
+    outcome (Rows (length (r ∷ rs)) v) (over (concatMap (λ x. x) (r ∷ rs)) memory)
 
 unfoldable pub run : List ℕ → List ℕ → List ℕ → List ℕ → Outcome
 run words bytes planBytes memory =

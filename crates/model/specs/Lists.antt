@@ -12,9 +12,9 @@ module _ {A : Type 0} where
   _∈_ x xs = List·Memᴰ x xs
 
   -- the elements that pass the test, in their order
-  abbrev pub keep : (A → Bool) → List A → List A
-  keep p [] = []
-  keep p (x ∷ xs) = cond (p x) (x ∷ keep p xs) (keep p xs)
+  abbrev pub filter : (A → Bool) → List A → List A
+  filter p [] = []
+  filter p (x ∷ xs) = cond (p x) (x ∷ filter p xs) (filter p xs)
 
   abbrev pub any : (A → Bool) → List A → Bool
   any p [] = false
@@ -60,20 +60,20 @@ module _ {A : Type 0} where
   sort before (x ∷ xs) = insert before x (sort before xs)
 
   -- what there is, before a list
-  abbrev pub addFound : Option A → List A → List A
-  addFound none xs = xs
-  addFound (some x) xs = x ∷ xs
+  abbrev pub addSome : Option A → List A → List A
+  addSome none xs = xs
+  addSome (some x) xs = x ∷ xs
 
 module _ {A B : Type 0} where
   -- the lists that f gives, one behind the other
-  abbrev pub each : (A → List B) → List A → List B
-  each f [] = []
-  each f (x ∷ xs) = f x ++ each f xs
+  abbrev pub concatMap : (A → List B) → List A → List B
+  concatMap f [] = []
+  concatMap f (x ∷ xs) = f x ++ concatMap f xs
 
   -- what f gives, where it gives something
-  abbrev pub found : (A → Option B) → List A → List B
-  found f [] = []
-  found f (x ∷ xs) = addFound (f x) (found f xs)
+  abbrev pub filterMap : (A → Option B) → List A → List B
+  filterMap f [] = []
+  filterMap f (x ∷ xs) = addSome (f x) (filterMap f xs)
 
 -- k numbers from n up
 abbrev pub countUp : ℕ → ℕ → List ℕ
@@ -91,7 +91,7 @@ sameWords (x ∷ xs) [] = false
 sameWords (x ∷ xs) (y ∷ ys) = eqb x y && sameWords xs ys
 
 -- ascending by the first differing word
-abbrev pub wordsBefore : List ℕ → List ℕ → Bool
-wordsBefore xs [] = false
-wordsBefore [] (y ∷ ys) = true
-wordsBefore (x ∷ xs) (y ∷ ys) = ltb x y || (eqb x y && wordsBefore xs ys)
+abbrev pub lexicographic : List ℕ → List ℕ → Bool
+lexicographic xs [] = false
+lexicographic [] (y ∷ ys) = true
+lexicographic (x ∷ xs) (y ∷ ys) = ltb x y || (eqb x y && lexicographic xs ys)

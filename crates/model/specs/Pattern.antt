@@ -4,7 +4,7 @@ use mathlib.Core.Bool.{Bool, true, false, _&&_}
 use mathlib.Core.List.{List, [], _∷_}
 use lib.ListN.{length, getD}
 use lib.Dec.{eqb, ltb, leb}
-use Rattle.model.specs.Lists.{each, below}
+use Rattle.model.specs.Lists.{concatMap, below}
 use Rattle.model.specs.Numbers.{isTerm}
 use Rattle.model.specs.Site.{Row, Site, isDeclared}
 use Rattle.model.specs.Tables.{Column, subject, object, vp}
@@ -37,7 +37,7 @@ variables n (x ∷ xs) = variables (variablesWith n x) xs
 
 -- V, the count of variables
 unfoldable pub width : Pattern → ℕ
-width pattern = variables 0 (each positions pattern)
+width pattern = variables 0 (concatMap positions pattern)
 
 -- ---- what is asked of a pattern
 

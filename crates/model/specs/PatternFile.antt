@@ -4,7 +4,7 @@ use mathlib.Core.Bool.{false, cond}
 use mathlib.Core.List.{List, [], _∷_, _++_}
 use lib.ListN.{length}
 use lib.Dec.{eqb}
-use Rattle.model.specs.Lists.{each}
+use Rattle.model.specs.Lists.{concatMap}
 use Rattle.model.specs.Reader.{Reply, Reader, _>>=_, _>>_, return, ask, wholeFile, repeated}
 use Rattle.model.specs.Numbers.{isTerm, number, numberBytes}
 use Rattle.model.specs.Site.{Site, isDeclared}
@@ -57,8 +57,8 @@ abbrev pub positionBytes : Position → List ℕ
 positionBytes x = numberBytes (positionNumber x)
 
 abbrev pub triplePatternBytes : TriplePattern → List ℕ
-triplePatternBytes q = each positionBytes (positions q)
+triplePatternBytes q = concatMap positionBytes (positions q)
 
 -- what is written for a pattern
 unfoldable pub patternBytes : Pattern → List ℕ
-patternBytes pattern = numberBytes (length pattern) ++ each triplePatternBytes pattern
+patternBytes pattern = numberBytes (length pattern) ++ concatMap triplePatternBytes pattern

@@ -4,7 +4,7 @@ use mathlib.Core.Bool.{_&&_, not}
 use mathlib.Core.List.{List, [], _∷_}
 use lib.ListN.{length}
 use lib.Dec.{eqb}
-use Rattle.model.specs.Lists.{any, each}
+use Rattle.model.specs.Lists.{any, concatMap}
 use Rattle.model.specs.Reader.{Reply, Reader, _>>=_, _>>_, return, ask, wholeFile, repeated}
 use Rattle.model.specs.Numbers.{number, numberBytes}
 use Rattle.model.specs.Store.{Store}
@@ -32,4 +32,4 @@ stepNumbers x = x .place ∷ x .choice ∷ []
 
 -- what is written for a plan
 unfoldable pub planBytes : Plan → List ℕ
-planBytes plan = each numberBytes (each stepNumbers plan)
+planBytes plan = concatMap numberBytes (concatMap stepNumbers plan)

@@ -4,7 +4,7 @@ use mathlib.Core.Bool.{Bool, true, false, cond, _&&_, _||_, not}
 use mathlib.Core.List.{List, [], _∷_, _++_, map}
 use lib.ListN.{length}
 use lib.Dec.{eqb, ltb}
-use Rattle.model.specs.Lists.{keep, any, below}
+use Rattle.model.specs.Lists.{filter, any, below}
 use Rattle.model.specs.Tables.{kindCount}
 use Rattle.model.specs.Store.{Store}
 use Rattle.model.specs.Pattern.{Pattern, positions, places, tripleAt, sameVariable}
@@ -30,7 +30,7 @@ tableRows store pattern i c = length (chosenTable (store .site) pattern i c)
 -- the table that may be chosen with fewest rows
 unfoldable pub chooseTable : Store → Pattern → ℕ → ℕ
 chooseTable store pattern i =
-    best (λ c d. ltb (tableRows store pattern i c) (tableRows store pattern i d)) 0 (keep (mayChoose store pattern i) (choices pattern))
+    best (λ c d. ltb (tableRows store pattern i c) (tableRows store pattern i d)) 0 (filter (mayChoose store pattern i) (choices pattern))
 
 -- ---- the order
 
@@ -47,7 +47,7 @@ isFixed (Var v) = false
 
 -- the terms among the three positions of place i, when some places are taken
 unfoldable pub termCount : Pattern → List ℕ → ℕ → ℕ
-termCount pattern taken i = length (keep isFixed (positions (tripleAt pattern i)))
+termCount pattern taken i = length (filter isFixed (positions (tripleAt pattern i)))
 
 -- the rows of the table chosen for place i
 unfoldable pub chosenRows : Store → Pattern → ℕ → ℕ
@@ -66,7 +66,7 @@ orElse (x ∷ xs) ys = x ∷ xs
 
 -- while some remaining place shares a variable with those taken, only such ones compete; else all do
 unfoldable pub competitors : Pattern → List ℕ → List ℕ → List ℕ
-competitors pattern taken remaining = orElse (keep (isJoined pattern taken) remaining) remaining
+competitors pattern taken remaining = orElse (filter (isJoined pattern taken) remaining) remaining
 
 -- the first of a list that none beats; lists are in ascending order, so that a tie goes to the lowest place
 abbrev pub bestOf : (ℕ → ℕ → Bool) → List ℕ → ℕ
@@ -74,7 +74,7 @@ bestOf beats [] = 0
 bestOf beats (x ∷ xs) = best beats x xs
 
 abbrev pub without : ℕ → List ℕ → List ℕ
-without i xs = keep (λ j. not (eqb j i)) xs
+without i xs = filter (λ j. not (eqb j i)) xs
 
 -- the next place
 unfoldable pub pick : Store → Pattern → List ℕ → List ℕ → ℕ

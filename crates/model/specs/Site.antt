@@ -4,7 +4,7 @@ use mathlib.Core.Bool.{Bool, _&&_, _||_}
 use mathlib.Core.List.{List, [], map}
 use lib.ListN.{length, getD}
 use lib.Dec.{eqb, ltb, leb}
-use Rattle.model.specs.Lists.{_∈_, all, any, each, sum, ascends}
+use Rattle.model.specs.Lists.{_∈_, all, any, concatMap, sum, ascends}
 use Rattle.model.specs.Numbers.{isTerm}
 
 -- subject and object
@@ -59,7 +59,7 @@ factsOf t = map (λ r. (r .0, t .predicate, r .1)) (t .rows)
 
 -- a site is a set of facts
 unfoldable pub facts : Site → List Fact
-facts site = each factsOf site
+facts site = concatMap factsOf site
 
 abbrev pub IsFact : Site → Fact → Type 0
 IsFact site f = f ∈ facts site

@@ -4,7 +4,7 @@ use mathlib.Core.Bool.{Bool, _&&_}
 use mathlib.Core.List.{List, [], _∷_, _++_, map}
 use lib.ListN.{length}
 use lib.Dec.{ltb, leb}
-use Rattle.model.specs.Lists.{all, each, sum, ascends, aboveLast}
+use Rattle.model.specs.Lists.{all, concatMap, sum, ascends, aboveLast}
 use Rattle.model.specs.Reader.{Reply, Reader, _>>=_, _>>_, return, ask, wholeFile, repeated}
 use Rattle.model.specs.Numbers.{isTerm, number, numberBytes}
 use Rattle.model.specs.Site.{Row, rowBefore, Table, Site, mostPredicates, mostRows}
@@ -71,7 +71,10 @@ rowBytes r = numberBytes (r .0) ++ numberBytes (r .1)
 abbrev pub declarationOf : Table → Declaration
 declarationOf t = (t .predicate, length (t .rows))
 
+abbrev pub declarations : Site → List Declaration
+declarations site = map declarationOf site
+
 -- what is written for a site
 unfoldable pub siteBytes : Site → List ℕ
 siteBytes site =
-    numberBytes (length site) ++ (each declarationBytes (map declarationOf site) ++ each (λ t. each rowBytes (t .rows)) site)
+    numberBytes (length site) ++ (concatMap declarationBytes (declarations site) ++ concatMap (λ t. concatMap rowBytes (t .rows)) site)

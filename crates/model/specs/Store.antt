@@ -6,8 +6,9 @@ use mathlib.Core.Option.{Option, none, some}
 use mathlib.Core.List.{List, [], _∷_, _++_, map}
 use lib.ListN.{length, getD, take, drop}
 use lib.Dec.{leb}
-use Rattle.model.specs.Lists.{each, sameWords}
+use Rattle.model.specs.Lists.{concatMap, sameWords}
 use Rattle.model.specs.Site.{Row, Site, isSite, rowTotal, mostPredicates, mostRows}
+use Rattle.model.specs.SiteFile.{Declaration, declarations}
 use Rattle.model.specs.Tables.{kinds, kindCount, semiJoin, isStored, mostThreshold}
 
 -- the rows of p, and those that a semi-join leaves of them
@@ -18,60 +19,64 @@ pub record Reduced : Type 0 where
 -- for each p, each q, each k, in that nesting
 unfoldable pub semiJoins : Site → List Reduced
 semiJoins site =
-    each (λ p. each (λ q. map (λ k. record { full = p .rows; rows = semiJoin k (p .rows) (q .rows) }) kinds) site) site
+    concatMap (λ p. concatMap (λ q. map (λ k. record { full = p .rows; rows = semiJoin k (p .rows) (q .rows) }) kinds) site) site
 
-abbrev pub isKept : ℕ → Reduced → Bool
-isKept t x = isStored t (length (x .rows)) (length (x .full))
+abbrev pub isStoredTable : ℕ → Reduced → Bool
+isStoredTable t x = isStored t (length (x .rows)) (length (x .full))
 
 -- the rows that the store holds of a semi-join
-unfoldable pub kept : ℕ → Reduced → List Row
-kept t x = cond (isKept t x) (x .rows) []
+unfoldable pub storedRows : ℕ → Reduced → List Row
+storedRows t x = cond (isStoredTable t x) (x .rows) []
 
 abbrev pub rowWords : Row → List ℕ
 rowWords r = r .0 ∷ r .1 ∷ []
 
 abbrev pub tableWords : List Row → List ℕ
-tableWords rows = each rowWords rows
+tableWords rows = concatMap rowWords rows
 
 -- per predicate: term, row count, start; the first table starts at `here`
-unfoldable pub vpEntries : ℕ → Site → List ℕ
+abbrev pub vpEntries : ℕ → List Declaration → List ℕ
 vpEntries here [] = []
-vpEntries here (t ∷ ts) = t .predicate ∷ length (t .rows) ∷ here ∷ vpEntries (here + 2 * length (t .rows)) ts
+vpEntries here (d ∷ ds) = d .0 ∷ d .1 ∷ here ∷ vpEntries (here + 2 * d .1) ds
 
 -- per semi-join: row count, start (0 if not stored); the first stored table starts at `here`
 unfoldable pub semiJoinEntries : ℕ → ℕ → List Reduced → List ℕ
 semiJoinEntries t here [] = []
 semiJoinEntries t here (x ∷ xs) =
-    length (x .rows) ∷ cond (isKept t x) here 0 ∷ semiJoinEntries t (here + 2 * length (kept t x)) xs
+    length (x .rows) ∷ cond (isStoredTable t x) here 0 ∷ semiJoinEntries t (here + 2 * length (storedRows t x)) xs
 
--- where the rows begin: after three words, and the entries of p predicates
-abbrev pub rowsStart : ℕ → ℕ
-rowsStart p = 3 + (3 * p + 2 * (p * (p * kindCount)))
-
--- the first word of the entry of the predicate at place i
+-- the first word of the entry of the predicate at place i: three words come before all
 abbrev pub vpEntryAt : ℕ → ℕ
 vpEntryAt i = 3 + 3 * i
 
--- the first word of the entry of kind k of the predicate at place i against the one at place j, of p predicates
+-- the place of the semi-join of kind k of the predicate at place i against the one at place j, among those of p predicates
+abbrev pub semiJoinPlace : ℕ → ℕ → ℕ → ℕ → ℕ
+semiJoinPlace p i j k = (i * p + j) * kindCount + k
+
+-- the first word of its entry, behind those of the predicates
 abbrev pub semiJoinEntryAt : ℕ → ℕ → ℕ → ℕ → ℕ
-semiJoinEntryAt p i j k = 3 + (3 * p + 2 * ((i * p + j) * kindCount + k))
+semiJoinEntryAt p i j k = vpEntryAt p + 2 * semiJoinPlace p i j k
+
+-- where the rows begin: behind the entries of p predicates and of their semi-joins
+abbrev pub rowsStart : ℕ → ℕ
+rowsStart p = vpEntryAt p + 2 * (p * (p * kindCount))
 
 -- where the stored tables' rows begin
 abbrev pub storedStart : Site → ℕ
 storedStart site = rowsStart (length site) + 2 * rowTotal site
 
 abbrev pub vpWords : Site → List ℕ
-vpWords site = each (λ t. tableWords (t .rows)) site
+vpWords site = concatMap (λ t. tableWords (t .rows)) site
 
-abbrev pub keptWords : ℕ → List Reduced → List ℕ
-keptWords t xs = each (λ x. tableWords (kept t x)) xs
+abbrev pub storedWords : ℕ → List Reduced → List ℕ
+storedWords t xs = concatMap (λ x. tableWords (storedRows t x)) xs
 
 -- P; T; words used; the entries of the predicates and of the semi-joins; all VP rows; all stored tables' rows
 unfoldable pub layout : ℕ → Site → List ℕ
 layout t site =
-    length site ∷ t ∷ (storedStart site + length (keptWords t (semiJoins site)))
-    ∷ (vpEntries (rowsStart (length site)) site
-    ++ (semiJoinEntries t (storedStart site) (semiJoins site) ++ (vpWords site ++ keptWords t (semiJoins site))))
+    length site ∷ t ∷ (storedStart site + length (storedWords t (semiJoins site)))
+    ∷ (vpEntries (rowsStart (length site)) (declarations site)
+    ++ (semiJoinEntries t (storedStart site) (semiJoins site) ++ (vpWords site ++ storedWords t (semiJoins site))))
 
 -- no site needs more words, at whatever threshold
 abbrev pub mostStoreWords : ℕ

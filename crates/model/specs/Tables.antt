@@ -4,12 +4,12 @@ use mathlib.Core.Bool.{Bool, _&&_}
 use mathlib.Core.List.{List, [], _∷_, map}
 use lib.ListN.{length, getD}
 use lib.Dec.{eqb, ltb}
-use Rattle.model.specs.Lists.{keep, any}
+use Rattle.model.specs.Lists.{filter, any}
 use Rattle.model.specs.Site.{Row, Site, facts}
 
 -- VP of p: the (s, o) with (s, p, o) in the site
 unfoldable pub vp : Site → ℕ → List Row
-vp site p = map (λ f. (f .0, f .2)) (keep (λ f. eqb (f .1) p) (facts site))
+vp site p = map (λ f. (f .0, f .2)) (filter (λ f. eqb (f .1) p) (facts site))
 
 pub data Column : Type 0 where
   subject object : Column
@@ -28,7 +28,7 @@ arePartners k r s = eqb (at (k .0) r) (at (k .1) s)
 
 -- the rows of p that have a partner in q
 unfoldable pub semiJoin : Kind → List Row → List Row → List Row
-semiJoin k p q = keep (λ r. any (arePartners k r) q) p
+semiJoin k p q = filter (λ r. any (arePartners k r) q) p
 
 -- k = 0, 1, 2: SS, OS, SO
 abbrev pub kinds : List Kind

@@ -5,7 +5,7 @@ use mathlib.Core.Bool.{cond}
 use mathlib.Core.List.{List, [], _∷_, _++_}
 use lib.ListN.{take, drop}
 use lib.Dec.{ltb}
-use Rattle.model.specs.Lists.{each, below}
+use Rattle.model.specs.Lists.{concatMap, below}
 use Rattle.model.specs.declared.answer.Answer.{Answer}
 use Rattle.model.specs.declared.answer.Answer.the-variants.{Rows, None, Built, Refused}
 use Rattle.model.specs.declared.answer.Answer.the-variants.{Plan as PlanAnswer}
@@ -55,7 +55,7 @@ firstLine (Refused n) = refusedText ++ (decimal n ++ 10 ∷ [])
 
 -- the lines of the rows at the front of some words
 unfoldable pub rowLines : Answer → List ℕ → List ℕ
-rowLines (Rows count width) words = each (λ i. rowLine (take width (drop (i * width) words))) (below count)
+rowLines (Rows count width) words = concatMap (λ i. rowLine (take width (drop (i * width) words))) (below count)
 rowLines None words = []
 rowLines (Built used) words = []
 rowLines PlanAnswer words = []

@@ -12,8 +12,8 @@ use Rattle.model.specs.Planner.{planned}
 use Rattle.model.specs.Calls.{either, withPlan, plan}
 use Rattle.model.specs.declared.answer.Answer.the-variants.{Refused, Plan as PlanAnswer}
 use Rattle.model.specs.declared.answer.Planned.{Planned}
-use Rattle.lookups.specs.Lookups.{Passed}
-use Rattle.lookups.proofs.Lookups.{not-passed, passed-store}
+use Rattle.catalog.specs.Lookups.{Validated}
+use Rattle.catalog.proofs.Lookups.{not-passed, passed-store}
 use Rattle.patterns.specs.Members.{patternIn, PatternHolds}
 use Rattle.patterns.specs.Replies.{PatternReadAs, checkReply}
 use Rattle.patterns.specs.declared.pattern_reader.PatternRead.{PatternRead}
@@ -25,7 +25,7 @@ module _ (words bytes : List ℕ) where
   unfolding either
   no-store e = rw (not-passed words e) refl
 
-  pub store-passed : Passed words → checkReply words bytes ≡ readPattern (decoded words .site) bytes
+  pub store-passed : Validated words → checkReply words bytes ≡ readPattern (decoded words .site) bytes
   unfolding either
   store-passed e = rw (passed-store words e) refl
 

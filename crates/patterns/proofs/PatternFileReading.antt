@@ -9,13 +9,13 @@ use lib.ListN.{length, getD, take, drop, set, length-set, drop-of-length-le}
 use lib.Seq.{drop-cons, take-suc-set, getD-set-same, getD-set-other}
 use lib.Dec.{eqb}
 use borrow.Author.Tests.{eqb-true, eqb-false}
-use Rattle.model.specs.Lists.{each}
+use Rattle.model.specs.Lists.{concatMap}
 use Rattle.model.specs.Reader.{Reply, refused, gives, after, ask, repeated, wholeFile}
 use Rattle.model.specs.Site.{Site}
 use Rattle.model.specs.Pattern.{Pattern, mostTriplePatterns, mostVariables, positions, variables, width, isPatternLength}
 use Rattle.model.specs.PatternFile.{triplePattern, patternFile, readPattern}
 use Rattle.model.specs.declared.pattern.TriplePattern.{TriplePattern}
-use Rattle.model.proofs.Blocks.{each-append}
+use Rattle.model.proofs.Blocks.{concatMap-append}
 use Rattle.model.proofs.Readers.{PartRead, none-read, all-read, next-refused, next-read}
 use Rattle.model.proofs.Patterns.{variables-append, triple-limit}
 use Rattle.model.proofs.PatternFile.{triple-reads}
@@ -73,7 +73,7 @@ pub record MembersRead (site : Site) (n : ℕ) (bytes s : List ℕ) (members : L
 -- one triple pattern more
 width-snoc : (done : Pattern) (q : TriplePattern) → width (done ++ q ∷ []) ≡ variables (width done) (positions q)
 unfolding width
-width-snoc done q = ap (variables 0) (each-append positions done (q ∷ [])) ∙ variables-append 0 (each positions done) (positions q)
+width-snoc done q = ap (variables 0) (concatMap-append positions done (q ∷ [])) ∙ variables-append 0 (concatMap positions done) (positions q)
 
 members-snoc : (members : List Member) (i : ℕ) (m : Member) → i < length members
     → patternIn (upTo (set members i m) (i + 1)) ≡ patternIn (upTo members i) ++ m .triple ∷ []

@@ -18,12 +18,12 @@ use Rattle.model.proofs.Patterns.{position-limit}
 use Rattle.tables.specs.NumberAt.{numberAt}
 use Rattle.tables.specs.declared.number.Number.the-variants.{Value, Bad}
 use Rattle.tables.proofs.NumberReplies.{number-bad, number-value}
-use Rattle.lookups.specs.Lookups.{placeOf}
+use Rattle.catalog.specs.Lookups.{placeOf}
 use Rattle.patterns.specs.Replies.{replied, MemberReadOf}
-use Rattle.lookups.specs.declared.lookup.Found.the-variants.{At, Absent}
+use Rattle.catalog.specs.declared.lookup.Found.the-variants.{At, Absent}
 use Rattle.patterns.specs.declared.pattern.Member.{Member}
 use Rattle.patterns.specs.declared.pattern_reader.MemberRead.the-variants.{Member as MemberGiven, Refused}
-use Rattle.lookups.proofs.Lookups.{place-found, place-absent}
+use Rattle.catalog.proofs.Lookups.{place-found, place-absent}
 
 -- ---- a question as the code has it
 

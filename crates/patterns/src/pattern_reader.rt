@@ -3,7 +3,7 @@ ghost use Prim.Native.Nat.{_≤_};
 ghost use Rattle.model.specs.Pattern.{mostVariables};
 ghost use Rattle.model.specs.PatternFile.{readPattern};
 ghost use Rattle.model.specs.Store.{decoded};
-ghost use Rattle.lookups.specs.Lookups.{Passed};
+ghost use Rattle.catalog.specs.Lookups.{Validated};
 ghost use Rattle.patterns.specs.Members.{noPattern};
 ghost use Rattle.patterns.specs.Replies.{MemberReadOf, PatternReadAs};
 use crate::pattern::MOST_TRIPLE_PATTERNS;
@@ -13,8 +13,8 @@ use crate::pattern::no_member;
 use crate::positions::position_of;
 use crate::positions::position_refusal;
 use crate::positions::variables_with;
-use lookups::lookup::Found;
-use lookups::lookup::predicate_place;
+use catalog::lookup::Found;
+use catalog::lookup::predicate_place;
 use model::pattern::Position;
 use model::pattern::TriplePattern;
 use tables::limits::MOST_TERM;
@@ -29,7 +29,7 @@ pub enum MemberRead {
 
 // The triple pattern at a place of the bytes, `met` variables before it: subject, predicate, object, each questioned as it is read.
 pub fn read_member(w: &[u32], s: &[u8], at: usize, met: u32) -> MemberRead
-    requires { ⌜ Passed (now w) × (met ≤ mostVariables) ⌝ }
+    requires { ⌜ Validated (now w) × (met ≤ mostVariables) ⌝ }
     ensures { λ r. ⌜ MemberReadOf (decoded (now (w .entry)) .site) met at (now (s .entry)) r ⌝ }
 {
     let Number::Value(first, middle) = read_number(s, at) else {
@@ -94,7 +94,7 @@ pub fn pattern_refused(refusal: u32) -> PatternRead
 
 // Questions 11 to 17.
 pub fn read_pattern(w: &[u32], s: &[u8]) -> PatternRead
-    requires { ⌜ Passed (now w) ⌝ }
+    requires { ⌜ Validated (now w) ⌝ }
     ensures { λ r. ⌜ PatternReadAs (decoded (now (w .entry)) .site) (readPattern (decoded (now (w .entry)) .site) (now (s .entry))) r ⌝ }
 {
     let Number::Value(n, at) = read_number(s, 0) else {

@@ -2,7 +2,7 @@ ghost use mathlib.Core.Path.{_≡_};
 ghost use Prim.Native.Nat.{_<_, _≤_};
 ghost use mathlib.Core.List.{[], _∷_};
 ghost use lib.ListN.{length};
-ghost use Rattle.model.specs.Lists.{any, keep};
+ghost use Rattle.model.specs.Lists.{any, filter};
 ghost use Rattle.model.specs.Pattern.{positions, variablesWith, mostVariables, positionAt, sameVariable};
 ghost use Rattle.model.specs.PatternFile.{positionOf, askPosition};
 ghost use Rattle.model.specs.Planner.{shareVariable, isFixed};
@@ -129,7 +129,7 @@ pub fn share_variable(q: TriplePattern, r: TriplePattern) -> bool
 
 // 1 for a term, 0 for a variable.
 fn fixed(x: Position) -> usize
-    ensures { λ r. ⌜ (r ≡ length (keep isFixed (x ∷ []))) × (r ≤ 1) ⌝ }
+    ensures { λ r. ⌜ (r ≡ length (filter isFixed (x ∷ []))) × (r ≤ 1) ⌝ }
 {
     match x {
         Position::Term(_) => 1,
@@ -139,7 +139,7 @@ fn fixed(x: Position) -> usize
 
 // The terms among the three positions.
 pub fn term_count(q: TriplePattern) -> usize
-    ensures { λ r. ⌜ r ≡ length (keep isFixed (positions q)) ⌝ }
+    ensures { λ r. ⌜ r ≡ length (filter isFixed (positions q)) ⌝ }
 {
     let subject = q.subject;
     let predicate = q.predicate;

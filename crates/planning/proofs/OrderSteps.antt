@@ -8,14 +8,14 @@ use lib.ListN.{length, getD, set, length-append, length-map}
 use lib.Seq.{append-snoc, getD-set-same, getD-set-other}
 use lib.Dec.{eqb}
 use borrow.Author.Count.{below-more}
-use Rattle.model.specs.Lists.{_∈_, keep, any, below}
+use Rattle.model.specs.Lists.{_∈_, filter, any, below}
 use Rattle.model.specs.Store.{Store}
 use Rattle.model.specs.Pattern.{Pattern, mostTriplePatterns, positions, places, tripleAt}
 use Rattle.model.specs.Plan.{Step, placesOf}
 use Rattle.model.specs.Planner.{chooseTable, shareVariable, isJoined, isFixed, chosenRows, without, pick, order, planned}
 use Rattle.model.specs.Calls.{planNumbers}
 use Rattle.model.specs.declared.plan.Plan.{Plan as PlanNumbers}
-use Rattle.model.proofs.Membership.{keep-all, any-append, keep-same, keep-keep}
+use Rattle.model.proofs.Membership.{filter-all, any-append, filter-same, filter-filter}
 use Rattle.model.proofs.Below.{from-below}
 use Rattle.model.proofs.Ordering.{from-ordered, ordered}
 use Rattle.plans.specs.Choices.{TablesChosen}
@@ -43,25 +43,25 @@ module _ (store : Store) (pattern : Pattern) where
   -- the table of one place more
   pub chosen-more : {i c r t : ℕ} {choices rows terms : List ℕ} → TablesChosen store pattern i choices rows terms
       → i < length choices → i < length rows → i < length terms
-      → c ≡ chooseTable store pattern i → r ≡ chosenRows store pattern i → t ≡ length (keep isFixed (positions (tripleAt pattern i)))
+      → c ≡ chooseTable store pattern i → r ≡ chosenRows store pattern i → t ≡ length (filter isFixed (positions (tripleAt pattern i)))
       → TablesChosen store pattern (i + 1) (set choices i c) (set rows i r) (set terms i t)
   chosen-more {choices = choices} {rows} {terms} v h k l p q s = record {
     choice = set-more (chooseTable store pattern) choices (v .choice) h p;
     row-count = set-more (chosenRows store pattern) rows (v .row-count) k q;
-    term-count = set-more (λ j. length (keep isFixed (positions (tripleAt pattern j)))) terms (v .term-count) l s;
+    term-count = set-more (λ j. length (filter isFixed (positions (tripleAt pattern j)))) terms (v .term-count) l s;
   }
 
 -- ---- the places that are left
 
 -- the places below n that are not taken
 abbrev placesLeft : ℕ → List ℕ → List ℕ
-placesLeft n taken = keep (λ i. not (any (eqb i) taken)) (below n)
+placesLeft n taken = filter (λ i. not (any (eqb i) taken)) (below n)
 
 -- without one place more
 left-less : (n i : ℕ) (taken : List ℕ) → without i (placesLeft n taken) ≡ placesLeft n (taken ++ i ∷ [])
 left-less n i taken =
-    keep-keep (λ j. not (any (eqb j) taken)) (λ j. not (eqb j i)) (below n)
-    ∙ keep-same (λ j. not (any (eqb j) taken) && not (eqb j i)) (λ j. not (any (eqb j) (taken ++ i ∷ []))) (below n) (λ j m. same j)
+    filter-filter (λ j. not (any (eqb j) taken)) (λ j. not (eqb j i)) (below n)
+    ∙ filter-same (λ j. not (any (eqb j) taken) && not (eqb j i)) (λ j. not (any (eqb j) (taken ++ i ∷ []))) (below n) (λ j m. same j)
   where
     not-or : (a b : Bool) → (not a && not b) ≡ not (a || b)
     not-or true b = refl
@@ -98,7 +98,7 @@ module _ (store : Store) (pattern : Pattern) where
         within = omega arith;
         begins =
             ap (λ (k : ℕ). order store pattern k [] (places pattern)) whole
-            ∙ ap (order store pattern (n - 0) []) (sym (keep-all (λ i. true) (places pattern) (λ a m. refl)));
+            ∙ ap (order store pattern (n - 0) []) (sym (filter-all (λ i. true) (places pattern) (λ a m. refl)));
       }
 
   begun-picked : (taken : List ℕ) → Begun store pattern taken → length taken < length pattern

@@ -9,12 +9,12 @@ use lib.ListN.{length, getD, set, length-set}
 use lib.Seq.{getD-set-same, getD-set-other}
 use lib.Dec.{eqb}
 use borrow.Author.Count.{below-more}
-use Rattle.model.specs.Lists.{_∈_, keep, any, isEmpty, below}
+use Rattle.model.specs.Lists.{_∈_, filter, any, isEmpty, below}
 use Rattle.model.specs.Store.{Store}
 use Rattle.model.specs.Pattern.{Pattern, positions, tripleAt}
 use Rattle.model.specs.Planner.{best, shareVariable, isJoined, isFixed, termCount, chosenRows, beats, orElse, competitors, bestOf, pick}
 use Rattle.model.proofs.Booleans.{not-both}
-use Rattle.model.proofs.Membership.{from-keep, into-keep, keep-all, into-any, from-any, any-append, keep-append, keep-same, keep-keep}
+use Rattle.model.proofs.Membership.{from-filter, into-filter, filter-all, into-any, from-any, any-append, filter-append, filter-same, filter-filter}
 use Rattle.model.proofs.Below.{from-below, into-below, below-last}
 use Rattle.model.proofs.Best.{best-last}
 use Rattle.patterns.specs.Members.{memberAt, patternIn}
@@ -30,20 +30,20 @@ empty-last (x ∷ xs) y = refl
 
 module _ (p : ℕ → Bool) where
   -- of one number more
-  keep-last : (i : ℕ) → keep p (below (i + 1)) ≡ keep p (below i) ++ cond (p i) (i ∷ []) []
-  keep-last i = rw add-one (ap (keep p) (below-last i) ∙ keep-append p (below i) (i ∷ []))
+  filter-last : (i : ℕ) → filter p (below (i + 1)) ≡ filter p (below i) ++ cond (p i) (i ∷ []) []
+  filter-last i = rw add-one (ap (filter p) (below-last i) ∙ filter-append p (below i) (i ∷ []))
 
   -- those that pass where some do, else all
-  narrowing : (l : List ℕ) → keep (λ x. p x || not (any p l)) l ≡ orElse (keep p l) l
-  narrowing l = go (any p l) refl (keep p l) refl
+  narrowing : (l : List ℕ) → filter (λ x. p x || not (any p l)) l ≡ orElse (filter p l) l
+  narrowing l = go (any p l) refl (filter p l) refl
     where
-      go : (b : Bool) → any p l ≡ b → (k : List ℕ) → keep p l ≡ k → keep (λ x. p x || not b) l ≡ orElse k l
-      go true e [] q = let r = from-any p l e in absurd (List·Memᴰ·not-nil (rw q at (into-keep p (r .1) (r .2))))
-      go true e (x ∷ xs) q = keep-same (λ y. p y || false) p l (λ a m. or-false (p a)) ∙ q
-      go false e [] q = keep-all (λ y. p y || true) l (λ a m. or-true (p a))
+      go : (b : Bool) → any p l ≡ b → (k : List ℕ) → filter p l ≡ k → filter (λ x. p x || not b) l ≡ orElse k l
+      go true e [] q = let r = from-any p l e in absurd (List·Memᴰ·not-nil (rw q at (into-filter p (r .1) (r .2))))
+      go true e (x ∷ xs) q = filter-same (λ y. p y || false) p l (λ a m. or-false (p a)) ∙ q
+      go false e [] q = filter-all (λ y. p y || true) l (λ a m. or-true (p a))
       go false e (x ∷ xs) q =
-          let m : x ∈ keep p l = rw q (List·Memᴰ·head refl) in
-          let r = from-keep p l m in
+          let m : x ∈ filter p l = rw q (List·Memᴰ·head refl) in
+          let r = from-filter p l m in
           not-both (into-any p (r .0) (r .1)) e
 
 -- ---- some remaining place is joined
@@ -53,7 +53,7 @@ pub joined-more : (i : ℕ) (taken joined : List Bool)
     → someJoined (i + 1) taken joined ≡ (someJoined i taken joined || (not (getD taken i false) && getD joined i false))
 unfolding someJoined
 joined-more i taken joined =
-    rw (keep-last (λ k. not (getD taken k false)) i, any-append (λ k. getD joined k false))
+    rw (filter-last (λ k. not (getD taken k false)) i, any-append (λ k. getD joined k false))
     (ap (λ b. someJoined i taken joined || b) (go (not (getD taken i false))))
   where
     go : (b : Bool) → any (λ k. getD joined k false) (cond b (i ∷ []) []) ≡ (b && getD joined i false)
@@ -65,7 +65,7 @@ pub joined-found : (n i : ℕ) (taken joined : List Bool) → i < n → not (get
     → someJoined n taken joined ≡ true
 unfolding someJoined
 joined-found n i taken joined h e f =
-    into-any (λ k. getD joined k false) (into-keep (λ k. not (getD taken k false)) (into-below n h) e) f
+    into-any (λ k. getD joined k false) (into-filter (λ k. not (getD taken k false)) (into-below n h) e) f
 
 -- ---- the best competitor so far
 
@@ -79,8 +79,8 @@ beatsAt terms rows i j = beatsBy (getD terms i 0) (getD rows i 0) (getD terms j 
 -- of the places below i that pass the test: whether there is one, and the first that none beats
 pub record BestBelow (test : ℕ → Bool) (beats : ℕ → ℕ → Bool) (found : Bool) (best i : ℕ) : Type 0 where
   pub inside : best ≤ i
-  pub some-found : found ≡ not (isEmpty (keep test (below i)))
-  pub first : best ≡ bestOf beats (keep test (below i))
+  pub some-found : found ≡ not (isEmpty (filter test (below i)))
+  pub first : best ≡ bestOf beats (filter test (below i))
 
 -- one more behind a list
 best-of-last : (beats : ℕ → ℕ → Bool) (l : List ℕ) (y : ℕ)
@@ -101,17 +101,17 @@ module _ (test : ℕ → Bool) (beats : ℕ → ℕ → Bool) where
       first = b .first ∙ ap (bestOf beats) same;
     }
       where
-        same : keep test (below i) ≡ keep test (below (i + 1))
-        same = rw (keep-last test i, e, append-nil) refl
+        same : filter test (below i) ≡ filter test (below (i + 1))
+        same = rw (filter-last test i, e, append-nil) refl
 
-    competitor : test i ≡ true → keep test (below (i + 1)) ≡ keep test (below i) ++ i ∷ []
-    competitor e = rw (keep-last test i, e) refl
+    competitor : test i ≡ true → filter test (below (i + 1)) ≡ filter test (below i) ++ i ∷ []
+    competitor e = rw (filter-last test i, e) refl
 
-    found-one : test i ≡ true → true ≡ not (isEmpty (keep test (below (i + 1))))
+    found-one : test i ≡ true → true ≡ not (isEmpty (filter test (below (i + 1))))
     found-one e = rw (competitor e, empty-last) refl
 
-    best-of-both : test i ≡ true → cond (not found || beats i best) i best ≡ bestOf beats (keep test (below (i + 1)))
-    best-of-both e = rw (competitor e, best-of-last beats (keep test (below i)) i, b .some-found, b .first, Bool·not-not) refl
+    best-of-both : test i ≡ true → cond (not found || beats i best) i best ≡ bestOf beats (filter test (below (i + 1)))
+    best-of-both e = rw (competitor e, best-of-last beats (filter test (below i)) i, b .some-found, b .first, Bool·not-not) refl
 
     -- place i is the first that competes, or beats the best of those before it
     pub better : test i ≡ true → (not found || beats i best) ≡ true → BestBelow test beats true i (i + 1)
@@ -133,9 +133,9 @@ pub best-picked : (n : ℕ) (taken joined : List Bool) (terms rows : List ℕ) {
 unfolding someJoined pickBy
 best-picked n taken joined terms rows b = b .first ∙ ap (bestOf (beatsAt terms rows)) same
   where
-    same : keep (competesBy (someJoined n taken joined) taken joined) (below n) ≡ competitorsBy n taken joined
+    same : filter (competesBy (someJoined n taken joined) taken joined) (below n) ≡ competitorsBy n taken joined
     same =
-        sym (keep-keep (λ i. not (getD taken i false)) (λ i. getD joined i false || not (someJoined n taken joined)) (below n))
+        sym (filter-filter (λ i. not (getD taken i false)) (λ i. getD joined i false || not (someJoined n taken joined)) (below n))
         ∙ narrowing (λ i. getD joined i false) (remainingBy n taken)
 
 -- ---- the planner's pick
@@ -162,8 +162,8 @@ module _ (f g : ℕ → ℕ → Bool) where
   best-of-same (x ∷ xs) h = best-same x xs h
 
 -- those that pass or all stand in the list
-from-or-else : (p : ℕ → Bool) {a : ℕ} (l : List ℕ) → a ∈ orElse (keep p l) l → a ∈ l
-from-or-else p {a} l = go (keep p l) (λ m. from-keep p l m .0)
+from-or-else : (p : ℕ → Bool) {a : ℕ} (l : List ℕ) → a ∈ orElse (filter p l) l → a ∈ l
+from-or-else p {a} l = go (filter p l) (λ m. from-filter p l m .0)
   where
     go : (k : List ℕ) → (a ∈ k → a ∈ l) → a ∈ orElse k l → a ∈ l
     go [] h m = m
@@ -174,31 +174,31 @@ pub picked : (store : Store) (pattern : Pattern) (n : ℕ) (takenPlaces : List �
     → ((i : ℕ) → i < n → getD taken i false ≡ any (eqb i) takenPlaces)
     → ((i : ℕ) → i < n → getD joined i false ≡ isJoined pattern takenPlaces i)
     → ((i : ℕ) → i < n → getD rows i 0 ≡ chosenRows store pattern i)
-    → ((i : ℕ) → i < n → getD terms i 0 ≡ length (keep isFixed (positions (tripleAt pattern i))))
-    → pickBy n taken joined terms rows ≡ pick store pattern takenPlaces (keep (λ i. not (any (eqb i) takenPlaces)) (below n))
+    → ((i : ℕ) → i < n → getD terms i 0 ≡ length (filter isFixed (positions (tripleAt pattern i))))
+    → pickBy n taken joined terms rows ≡ pick store pattern takenPlaces (filter (λ i. not (any (eqb i) takenPlaces)) (below n))
 unfolding pickBy pick competitors beats termCount
 picked store pattern n takenPlaces taken joined terms rows isTaken joins isRows isTerms =
     rw (same-remaining, same-joined)
     (best-of-same (beatsAt terms rows) (beats store pattern takenPlaces) competing (λ i j k l. same-beats i j (competitor k) (competitor l)))
   where
     remaining : List ℕ
-    remaining = keep (λ i. not (any (eqb i) takenPlaces)) (below n)
+    remaining = filter (λ i. not (any (eqb i) takenPlaces)) (below n)
 
     competing : List ℕ
-    competing = orElse (keep (isJoined pattern takenPlaces) remaining) remaining
+    competing = orElse (filter (isJoined pattern takenPlaces) remaining) remaining
 
     inside : {i : ℕ} → i ∈ remaining → i < n
-    inside m = from-below n (from-keep (λ i. not (any (eqb i) takenPlaces)) (below n) m .0)
+    inside m = from-below n (from-filter (λ i. not (any (eqb i) takenPlaces)) (below n) m .0)
 
     competitor : {i : ℕ} → i ∈ competing → i < n
     competitor m = inside (from-or-else (isJoined pattern takenPlaces) remaining m)
 
     same-remaining : remainingBy n taken ≡ remaining
     same-remaining =
-        keep-same (λ i. not (getD taken i false)) (λ i. not (any (eqb i) takenPlaces)) (below n) (λ i m. ap not (isTaken i (from-below n m)))
+        filter-same (λ i. not (getD taken i false)) (λ i. not (any (eqb i) takenPlaces)) (below n) (λ i m. ap not (isTaken i (from-below n m)))
 
-    same-joined : keep (λ i. getD joined i false) remaining ≡ keep (isJoined pattern takenPlaces) remaining
-    same-joined = keep-same (λ i. getD joined i false) (isJoined pattern takenPlaces) remaining (λ i m. joins i (inside m))
+    same-joined : filter (λ i. getD joined i false) remaining ≡ filter (isJoined pattern takenPlaces) remaining
+    same-joined = filter-same (λ i. getD joined i false) (isJoined pattern takenPlaces) remaining (λ i m. joins i (inside m))
 
     same-beats : (i j : ℕ) → i < n → j < n → beatsAt terms rows i j ≡ beats store pattern takenPlaces i j
     same-beats i j h k = rw (isTerms i h, isTerms j k, isRows i h, isRows j k) refl

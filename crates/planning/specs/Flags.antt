@@ -6,7 +6,7 @@ use mathlib.Core.Bool.{Bool, false, _&&_, _||_, not}
 use mathlib.Core.List.{List}
 use lib.ListN.{length, getD}
 use lib.Dec.{eqb, ltb}
-use Rattle.model.specs.Lists.{keep, any, below}
+use Rattle.model.specs.Lists.{filter, any, below}
 use Rattle.model.specs.Pattern.{Pattern, tripleAt}
 use Rattle.model.specs.Planner.{shareVariable, orElse, bestOf}
 
@@ -17,14 +17,14 @@ pub record MarkedWith (pattern : Pattern) (n i : ℕ) (joined marked : List Bool
 
 -- of n places, those that are not taken
 abbrev pub remainingBy : ℕ → List Bool → List ℕ
-remainingBy n taken = keep (λ i. not (getD taken i false)) (below n)
+remainingBy n taken = filter (λ i. not (getD taken i false)) (below n)
 
 -- some of them is joined
 unfoldable pub someJoined : ℕ → List Bool → List Bool → Bool
 someJoined n taken joined = any (λ i. getD joined i false) (remainingBy n taken)
 
 abbrev pub competitorsBy : ℕ → List Bool → List Bool → List ℕ
-competitorsBy n taken joined = orElse (keep (λ i. getD joined i false) (remainingBy n taken)) (remainingBy n taken)
+competitorsBy n taken joined = orElse (filter (λ i. getD joined i false) (remainingBy n taken)) (remainingBy n taken)
 
 -- more terms, or as many and fewer rows
 abbrev pub beatsBy : ℕ → ℕ → ℕ → ℕ → Bool

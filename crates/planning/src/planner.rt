@@ -6,7 +6,7 @@ ghost use Rattle.model.specs.Calls.{planNumbers, withPlan, plan as planCall};
 ghost use Rattle.model.specs.Store.{decoded};
 ghost use Rattle.model.specs.declared.answer.Answer.the-variants.{Refused};
 ghost use mathlib.Core.List.{[]};
-ghost use Rattle.lookups.specs.Lookups.{Passed};
+ghost use Rattle.catalog.specs.Lookups.{Validated};
 ghost use Rattle.patterns.specs.Members.{patternIn, PatternHolds};
 ghost use Rattle.plans.specs.Choices.{TablesChosen};
 use crate::ordering::mark_joined;
@@ -28,7 +28,7 @@ pub fn choose_tables(
     rows: &mut [usize; 8],
     terms: &mut [usize; 8],
 )
-    requires { ⌜ Passed (now w) × PatternHolds (decoded (now w) .site) pattern ⌝ }
+    requires { ⌜ Validated (now w) × PatternHolds (decoded (now w) .site) pattern ⌝ }
     requires { ⌜ (pattern .count ≤ length (now choices)) × (pattern .count ≤ length (now rows)) × (pattern .count ≤ length (now terms)) ⌝ }
     ensures { λ _. ⌜ TablesChosen (decoded (now (w .entry))) (patternIn pattern) (pattern .count) (now (choices .exit)) (now (rows .exit)) (now (terms .exit)) ⌝ }
 {
@@ -43,7 +43,7 @@ pub fn choose_tables(
 
 // The plan of a pattern that was accepted.
 pub fn plan_pattern(w: &[u32], pattern: Pattern) -> Plan
-    requires { ⌜ Passed (now w) × PatternHolds (decoded (now w) .site) pattern ⌝ }
+    requires { ⌜ Validated (now w) × PatternHolds (decoded (now w) .site) pattern ⌝ }
     ensures { λ r. ⌜ r ≡ planNumbers (planned (decoded (now (w .entry))) (patternIn pattern)) ⌝ }
 {
     let mut choices = [0usize; 8];

@@ -8,7 +8,7 @@ use mathlib.Core.List.{[], _∷_, _++_, append-nil}
 use lib.ListN.{length}
 use lib.Dec.{ltb}
 use borrow.Author.Tests.{lt-ltb, le-ltb}
-use Rattle.model.specs.Lists.{keep, below}
+use Rattle.model.specs.Lists.{filter, below}
 use Rattle.model.specs.Site.{Site, isSite, mostRows, noTable, tableAt}
 use Rattle.model.specs.Tables.{Column, Kind, semiJoin, kindAt, kindCount, isStored}
 use Rattle.model.specs.Store.{Store}
@@ -18,7 +18,7 @@ use Rattle.model.specs.Planner.{best, tableRows, chooseTable, chosenRows}
 use Rattle.model.specs.declared.pattern.Position.{Position}
 use Rattle.model.specs.declared.pattern.TriplePattern.{TriplePattern}
 use Rattle.model.proofs.Booleans.{and-cases, to-false}
-use Rattle.model.proofs.Membership.{at-place, keep-append, keep-fewer}
+use Rattle.model.proofs.Membership.{at-place, filter-append, filter-fewer}
 use Rattle.model.proofs.Best.{best-last, best-again}
 use Rattle.model.proofs.Below.{below-last}
 use Rattle.model.proofs.Partition.{proper, vp-table}
@@ -45,7 +45,7 @@ module _ (site : Site) (yes-site : isSite site ≡ true) where
   pub left-few : (k : Kind) (i j : ℕ) → length (semiJoin k (tableAt site i .rows) (tableAt site j .rows)) ≤ mostRows
   unfolding semiJoin
   left-few k i j =
-      let fewer : length (semiJoin k (tableAt site i .rows) (tableAt site j .rows)) ≤ length (tableAt site i .rows) = keep-fewer _ (tableAt site i .rows) in
+      let fewer : length (semiJoin k (tableAt site i .rows) (tableAt site j .rows)) ≤ length (tableAt site i .rows) = filter-fewer _ (tableAt site i .rows) in
       omega (arith, table-few i)
 
 -- ---- one table
@@ -118,7 +118,7 @@ module _ (store : Store) (pattern : Pattern) (i : ℕ) where
 
   -- the best of VP and the c choices behind it
   abbrev bestTo : ℕ → ℕ
-  bestTo c = best (λ x y. ltb (rowsOf x) (rowsOf y)) 0 (keep may (below (suc c)))
+  bestTo c = best (λ x y. ltb (rowsOf x) (rowsOf y)) 0 (filter may (below (suc c)))
 
   pub record BestTo (c number rows : ℕ) : Type 0 where
     pub chosen : number ≡ bestTo c
@@ -133,7 +133,7 @@ module _ (store : Store) (pattern : Pattern) (i : ℕ) where
   unfolding chooseTable chosenRows
   best-all {c} {number} v e =
       let whole : suc c ≡ 1 + length pattern * kindCount = omega arith in
-      let same : number ≡ chooseTable store pattern i = v .chosen ∙ ap (λ n. best (λ x y. ltb (rowsOf x) (rowsOf y)) 0 (keep may (below n))) whole in
+      let same : number ≡ chooseTable store pattern i = v .chosen ∙ ap (λ n. best (λ x y. ltb (rowsOf x) (rowsOf y)) 0 (filter may (below n))) whole in
       (same, v .counted ∙ ap rowsOf same)
 
   -- one choice more
@@ -141,16 +141,16 @@ module _ (store : Store) (pattern : Pattern) (i : ℕ) where
       → cond b (cond d (suc c) number) number ≡ bestTo (suc c)
   best-next {c} {number} {rows} b d v p q =
       sym
-      (ap (λ l. best fewer 0 (keep may l)) (below-last (suc c))
-      ∙ ap (best fewer 0) (keep-append may (below (suc c)) (suc c ∷ []))
+      (ap (λ l. best fewer 0 (filter may l)) (below-last (suc c))
+      ∙ ap (best fewer 0) (filter-append may (below (suc c)) (suc c ∷ []))
       ∙ rw p (go b))
     where
       fewer : ℕ → ℕ → Bool
       fewer x y = ltb (rowsOf x) (rowsOf y)
 
-      go : (b : Bool) → best fewer 0 (keep may (below (suc c)) ++ cond b (suc c ∷ []) []) ≡ cond b (cond d (suc c) number) number
-      go true = best-last fewer 0 (keep may (below (suc c))) (suc c) ∙ rw (← (v .chosen), ← (v .counted), q) refl
-      go false = ap (best fewer 0) (append-nil (keep may (below (suc c)))) ∙ sym (v .chosen)
+      go : (b : Bool) → best fewer 0 (filter may (below (suc c)) ++ cond b (suc c ∷ []) []) ≡ cond b (cond d (suc c) number) number
+      go true = best-last fewer 0 (filter may (below (suc c))) (suc c) ∙ rw (← (v .chosen), ← (v .counted), q) refl
+      go false = ap (best fewer 0) (append-nil (filter may (below (suc c)))) ∙ sym (v .chosen)
 
 -- the answer for the next choice, and what the code makes of it
 module _ {store : Store} {pattern : Members} {i c number rows number′ rows′ : ℕ} {found : Chooseable} (cells : PatternCells pattern) (h : i < pattern .count)

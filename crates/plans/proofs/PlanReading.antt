@@ -8,17 +8,16 @@ use lib.ListN.{length, getD, take, drop, set, replicate, length-append, drop-of-
 use lib.Seq.{append-snoc, drop-cons, getD-set-same, getD-set-other}
 use lib.Dec.{eqb}
 use borrow.Author.Tests.{lt-ltb, le-ltb, eqb-true, eqb-false}
-use Rattle.model.specs.Lists.{any, each}
+use Rattle.model.specs.Lists.{any, concatMap}
 use Rattle.model.specs.Reader.{refused, gives, after, ask, repeated, wholeFile}
 use Rattle.model.specs.Store.{Store}
 use Rattle.model.specs.Pattern.{Pattern, mostTriplePatterns}
-use Rattle.model.specs.Plan.{Step, Plan, isPlace, qualifies, partner, kindOf, mayChoose, placesOf}
+use Rattle.model.specs.Plan.{Step, Plan, isPlace, mayChoose, placesOf}
 use Rattle.model.specs.PlanFile.{step, stepNumbers, readPlan}
 use Rattle.model.specs.Calls.{padded, planNumbers}
-use Rattle.model.proofs.Booleans.{and-cases, and-make}
+use Rattle.model.proofs.Booleans.{and-make}
 use Rattle.model.proofs.Membership.{any-append}
-use Rattle.model.proofs.Blocks.{each-append, length-each}
-use Rattle.model.proofs.Places.{qualifying}
+use Rattle.model.proofs.Blocks.{concatMap-append, length-concatMap}
 use Rattle.tables.specs.NumberAt.{numberAt}
 use Rattle.tables.specs.declared.number.Number.the-variants.{Value, Bad}
 use Rattle.tables.proofs.NumberReplies.{number-bad, number-value}
@@ -80,16 +79,6 @@ module _ (store : Store) (pattern : Pattern) (s : List ℕ) where
     unfolding readPlan wholeFile
     plan-given h = rw (q, drop-of-length-le s h) refl
 
--- ---- a choice is a byte
-
-pub choice-small : (store : Store) (pattern : Pattern) (i c : ℕ) → mayChoose store pattern i c ≡ true → length pattern ≤ mostTriplePatterns → c < 256
-unfolding mayChoose
-choice-small store pattern i zero e few = omega arith
-choice-small store pattern i (suc c) e few =
-    let q = and-cases (qualifies pattern i (partner c) (kindOf c)) _ e in
-    let l = qualifying pattern i (partner c) (kindOf c) (q .0) .there in
-    omega arith
-
 -- ---- a place is noted as taken
 
 pub place-noted : (taken : List Bool) (places : List ℕ) (p : ℕ) → p < length taken → (i : ℕ) → getD taken i false ≡ any (eqb i) places
@@ -124,8 +113,8 @@ padded-more n xs x h = set-behind xs n n x h (omega arith)
 pub step-written : (done : Plan) (x : Step) → length done < mostTriplePatterns
     → set (set (planNumbers done .steps) (2 * length done) (x .place)) (2 * length done + 1) (x .choice) ≡ planNumbers (done ++ x ∷ []) .steps
 step-written done x h =
-    let numbers = each stepNumbers done in
-    let size = length-each stepNumbers 2 (λ y. refl) done in
+    let numbers = concatMap stepNumbers done in
+    let size = length-concatMap stepNumbers 2 (λ y. refl) done in
     let longer = length-append numbers (x .place ∷ []) in
     let here : 2 * length done ≡ length numbers = omega arith in
     let there : 2 * length done + 1 ≡ length (numbers ++ x .place ∷ []) = omega arith in
@@ -135,5 +124,5 @@ step-written done x h =
       padded-more (2 * mostTriplePatterns) numbers (x .place) (omega arith),
       padded-more (2 * mostTriplePatterns) (numbers ++ x .place ∷ []) (x .choice) (omega arith),
       append-snoc numbers (x .place) (x .choice ∷ []),
-      each-append,
+      concatMap-append,
     ) refl

@@ -5,7 +5,7 @@ use mathlib.Core.Bool.{Bool, cond, _&&_, not}
 use mathlib.Core.List.{List}
 use lib.ListN.{length, getD}
 use lib.Dec.{eqb}
-use Rattle.model.specs.Lists.{keep}
+use Rattle.model.specs.Lists.{filter}
 use Rattle.model.specs.Tables.{semiJoin, kindAt, isStored}
 use Rattle.model.specs.Store.{Store}
 use Rattle.model.specs.Pattern.{Pattern, positions, tripleAt, positionAt, sameVariable, predicateTable}
@@ -30,4 +30,4 @@ chooseableTable store a i b j k =
 pub record TablesChosen (store : Store) (pattern : Pattern) (n : ℕ) (choices rows terms : List ℕ) : Type 0 where
   pub choice : (i : ℕ) → i < n → getD choices i 0 ≡ chooseTable store pattern i
   pub row-count : (i : ℕ) → i < n → getD rows i 0 ≡ chosenRows store pattern i
-  pub term-count : (i : ℕ) → i < n → getD terms i 0 ≡ length (keep isFixed (positions (tripleAt pattern i)))
+  pub term-count : (i : ℕ) → i < n → getD terms i 0 ≡ length (filter isFixed (positions (tripleAt pattern i)))

@@ -4,12 +4,12 @@ ghost use Rattle.model.specs.Tables.{kindCount};
 ghost use Rattle.model.specs.Plan.{mayChoose};
 ghost use Rattle.model.specs.Planner.{chooseTable, chosenRows};
 ghost use Rattle.model.specs.Store.{decoded};
-ghost use Rattle.lookups.specs.Lookups.{Passed};
+ghost use Rattle.catalog.specs.Lookups.{Validated};
 ghost use Rattle.patterns.specs.Members.{patternIn, TableOf, PatternHolds};
 ghost use Rattle.plans.specs.Choices.{qualifiesBy, chooseableTable};
-use lookups::lookup::semi_join_rows;
-use lookups::lookup::table_rows;
-use lookups::lookup::threshold;
+use catalog::lookup::semi_join_rows;
+use catalog::lookup::table_rows;
+use catalog::lookup::threshold;
 use model::pattern::TriplePattern;
 use patterns::pattern::Member;
 use patterns::pattern::Pattern;
@@ -41,7 +41,7 @@ pub enum Chooseable {
 
 // Kind k for a at place i against b at place j: it may be chosen if it qualifies and is stored.
 pub fn reduced_table(w: &[u32], a: Member, i: usize, b: Member, j: usize, k: usize) -> Chooseable
-    requires { ⌜ Passed (now w) × TableOf (decoded (now w) .site) a × TableOf (decoded (now w) .site) b × (k < kindCount) ⌝ }
+    requires { ⌜ Validated (now w) × TableOf (decoded (now w) .site) a × TableOf (decoded (now w) .site) b × (k < kindCount) ⌝ }
     ensures { λ r. ⌜ r ≡ chooseableTable (decoded (now (w .entry))) a i b j k ⌝ }
 {
     if !qualifies(a.triple, i, b.triple, j, k) {
@@ -56,7 +56,7 @@ pub fn reduced_table(w: &[u32], a: Member, i: usize, b: Member, j: usize, k: usi
 
 // Question 20: choice 0, or a stored table that qualifies.
 pub fn may_choose(w: &[u32], pattern: Pattern, i: usize, choice: usize) -> bool
-    requires { ⌜ Passed (now w) × PatternHolds (decoded (now w) .site) pattern × (i < pattern .count) ⌝ }
+    requires { ⌜ Validated (now w) × PatternHolds (decoded (now w) .site) pattern × (i < pattern .count) ⌝ }
     ensures { λ r. ⌜ r ≡ mayChoose (decoded (now (w .entry))) (patternIn pattern) i choice ⌝ }
 {
     if choice == 0 {
@@ -83,7 +83,7 @@ pub struct Choice {
 
 // The table that may be chosen with fewest rows; on a tie VP first, then lowest j, then lowest k.
 pub fn choose_table(w: &[u32], pattern: Pattern, i: usize) -> Choice
-    requires { ⌜ Passed (now w) × PatternHolds (decoded (now w) .site) pattern × (i < pattern .count) ⌝ }
+    requires { ⌜ Validated (now w) × PatternHolds (decoded (now w) .site) pattern × (i < pattern .count) ⌝ }
     ensures { λ r. ⌜ (r .number ≡ chooseTable (decoded (now (w .entry))) (patternIn pattern) i) × (r .rows ≡ chosenRows (decoded (now (w .entry))) (patternIn pattern) i) ⌝ }
 {
     let a = pattern.members[i];

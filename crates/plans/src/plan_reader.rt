@@ -1,7 +1,7 @@
 ghost use mathlib.Core.Path.{_≡_};
 ghost use Rattle.model.specs.PlanFile.{readPlan};
 ghost use Rattle.model.specs.Store.{decoded};
-ghost use Rattle.lookups.specs.Lookups.{Passed};
+ghost use Rattle.catalog.specs.Lookups.{Validated};
 ghost use Rattle.patterns.specs.Members.{patternIn, PatternHolds};
 ghost use Rattle.plans.specs.Replies.{PlanReadAs};
 use crate::choosing::may_choose;
@@ -27,7 +27,7 @@ fn plan_refused(refusal: u32) -> PlanRead
 
 // Questions 18 to 20.
 pub fn read_plan(w: &[u32], pattern: Pattern, s: &[u8]) -> PlanRead
-    requires { ⌜ Passed (now w) × PatternHolds (decoded (now w) .site) pattern ⌝ }
+    requires { ⌜ Validated (now w) × PatternHolds (decoded (now w) .site) pattern ⌝ }
     ensures { λ r. ⌜ PlanReadAs (readPlan (decoded (now (w .entry))) (patternIn pattern) (now (s .entry))) r ⌝ }
 {
     let mut steps = [0u8; 16];

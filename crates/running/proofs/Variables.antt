@@ -6,7 +6,7 @@ use mathlib.Core.Path.{_≡_, refl, sym, ap, _∙_}
 use mathlib.Core.List.{List}
 use lib.ListN.{length, drop, drop-of-length-le}
 use lib.Seq.{drop-cons}
-use Rattle.model.specs.Lists.{each}
+use Rattle.model.specs.Lists.{concatMap}
 use Rattle.model.specs.Pattern.{Pattern, positions, variables, width, noTriplePattern}
 use Rattle.model.specs.declared.pattern.Position.{Position}
 use Rattle.model.proofs.Patterns.{variables-append, variables-grow}
@@ -20,7 +20,7 @@ earlier-limit {n} xs h = omega (arith, variables-grow n xs)
 
 -- V is what `met` becomes over the triple patterns from place i on
 pub record Counted (pattern : Pattern) (i met : ℕ) : Type 0 where
-  pub total : variables met (each positions (drop i pattern)) ≡ width pattern
+  pub total : variables met (concatMap positions (drop i pattern)) ≡ width pattern
 
 pub none-counted : {pattern : Pattern} → Counted pattern 0 0
 unfolding width
@@ -34,7 +34,7 @@ one-counted {pattern} {i} {met} cells h counted =
     record {
       total =
           rw (← triple-member pattern i h, add-one)
-          (sym (variables-append met _ _) ∙ ap (λ (left : Pattern). variables met (each positions left)) (sym next) ∙ counted .total);
+          (sym (variables-append met _ _) ∙ ap (λ (left : Pattern). variables met (concatMap positions left)) (sym next) ∙ counted .total);
     }
 
 pub all-counted : {pattern : Pattern} {i met : ℕ} → Counted pattern i met → length pattern ≤ i → met ≡ width pattern

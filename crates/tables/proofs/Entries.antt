@@ -1,19 +1,19 @@
 -- The semi-joins of an image: the tables and the kind of each, and how many rows it leaves.
-use Prim.Native.Nat.{ℕ, zero, suc, _+_, _*_, _/_, _%_, _≤_, _<_}
+use Prim.Native.Nat.{ℕ, zero, suc, _*_, _/_, _%_, _≤_, _<_}
 use native.Mathlib.Nat.{mul-le-mul-right, mod-lt, div-add-mod', div-lt-iff-lt-mul}
 use native.Mathlib.Omega.{arith}
 use mathlib.Core.Path.{_≡_, refl, sym, ap, _∙_}
 use mathlib.Core.List.{List, [], _∷_}
-use lib.ListN.{length, getD}
+use lib.ListN.{length}
 use Rattle.model.specs.Site.{Site, rowTotal, mostRows, tableAt}
-use Rattle.model.specs.Tables.{kindCount, kindAt, semiJoin, isStored}
-use Rattle.model.specs.Store.{Reduced, isKept}
+use Rattle.model.specs.Tables.{kindCount, semiJoin, isStored}
+use Rattle.model.specs.Store.{Reduced, isStoredTable, semiJoinPlace, semiJoinEntryAt}
 use Rattle.model.proofs.Partition.{proper}
 use Rattle.model.proofs.Blocks.{head-block}
 use Rattle.model.proofs.StoreLayout.{leftAt, semi-join-block}
-use Rattle.model.proofs.Membership.{keep-fewer}
-use Rattle.tables.specs.Columns.{columnOf}
-use Rattle.tables.specs.SiteWords.{siteIn, ImageOf, noReduced, reducedAt, semiJoinPlace, OperandsOf}
+use Rattle.model.proofs.Membership.{filter-fewer}
+use Rattle.tables.specs.SiteWords.{siteIn, ImageOf, noReduced, reducedAt, OperandsOf, TablesOf}
+use Rattle.tables.specs.declared.operands.Operands.{Operands}
 use Rattle.tables.proofs.Images.{table-in}
 
 -- ---- the tables and the kind
@@ -63,24 +63,16 @@ pub record Counted (site : Site) (x n m : ℕ) : Type 0 where
   pub few : n ≤ mostRows
   pub full-few : m ≤ mostRows
 
-pub counted-kept : {site : Site} {x n m : ℕ} → Counted site x n m → (t : ℕ) → isStored t n m ≡ isKept t (reducedAt site x)
-counted-kept c t = rw (c .left, c .full) refl
+pub counted-stored : {site : Site} {x n m : ℕ} → Counted site x n m → (t : ℕ) → isStored t n m ≡ isStoredTable t (reducedAt site x)
+counted-stored c t = rw (c .left, c .full) refl
 
 -- ---- of an image
 
 -- what the entries of the tables say is what the semi-join is of
-pub operands-of : {count : ℕ} {image : List ℕ} → ImageOf count image → (p q k own other : ℕ) → p < count → q < count → k < kindCount
-    → (own < 2) × (columnOf own ≡ kindAt k .0) → (other < 2) × (columnOf other ≡ kindAt k .1)
-    → OperandsOf (siteIn count image) image (semiJoinPlace count p q k) (record {
-      entry = 3 + 3 * count + 2 * semiJoinPlace count p q k;
-      start = getD image (3 + 3 * p + 2) 0;
-      rows = getD image (3 + 3 * p + 1) 0;
-      own = own;
-      against = getD image (3 + 3 * q + 2) 0;
-      partners = getD image (3 + 3 * q + 1) 0;
-      other = other;
-    })
-operands-of {count} {image} o p q k own other h l m ownColumn otherColumn =
+pub operands-of : {count : ℕ} {image : List ℕ} → ImageOf count image → (p q k : ℕ) → p < count → q < count → k < kindCount
+    → (r : Operands) → r .entry ≡ semiJoinEntryAt count p q k → r .own < 2 → r .other < 2 → TablesOf image p q k r
+    → OperandsOf (siteIn count image) image (semiJoinPlace count p q k) r
+operands-of {count} {image} o p q k h l m r entry own other tables =
     let site = siteIn count image in
     let table = table-in o p h in
     let partner = table-in o q l in
@@ -89,13 +81,15 @@ operands-of {count} {image} o p q k own other h l m ownColumn otherColumn =
     let reduced : reducedAt site (semiJoinPlace count p q k) ≡ record { full = tableAt site p .rows; rows = leftAt site p q k } =
     rw (o .predicates) at (head-block (semi-join-block site p q k among partner-among m) noReduced) in
     record {
-      entry-place = rw (o .predicates) refl;
-      inside = table .inside;
-      partner-inside = partner .inside;
-      own-column = ownColumn .0;
-      partner-column = otherColumn .0;
-      full = table .count ∙ sym (ap (λ (r : Reduced). length (r .full)) reduced);
-      left = rw (table .back, partner .back, ownColumn .1, otherColumn .1) (sym (ap (λ (r : Reduced). r .rows) reduced));
+      entry-place = entry ∙ rw (o .predicates) refl;
+      inside = rw (tables .start, tables .rows) (table .inside);
+      partner-inside = rw (tables .against, tables .partners) (partner .inside);
+      own-column = own;
+      partner-column = other;
+      full = tables .rows ∙ table .count ∙ sym (ap (λ (r : Reduced). length (r .full)) reduced);
+      left =
+          rw (tables .start, tables .rows, tables .against, tables .partners, table .back, partner .back, tables .own-kind, tables .partner-kind)
+          (sym (ap (λ (r : Reduced). r .rows) reduced));
     }
 
 module _ {count : ℕ} {image : List ℕ} (o : ImageOf count image) (x : ℕ) (h : x < count * (count * kindCount)) where
@@ -110,7 +104,7 @@ module _ {count : ℕ} {image : List ℕ} (o : ImageOf count image) (x : ℕ) (h
 
   pub left-fewer : length (reducedAt site x .rows) ≤ length (reducedAt site x .full)
   unfolding semiJoin
-  left-fewer = rw reduced-of (keep-fewer _ (tableAt site (ownOf count x) .rows))
+  left-fewer = rw reduced-of (filter-fewer _ (tableAt site (ownOf count x) .rows))
 
   pub counted-of : {n m : ℕ} → n ≡ length (reducedAt site x .rows) → m ≡ length (reducedAt site x .full) → Counted site x n m
   counted-of e f = record { left = e; full = f; few = omega (arith, left-fewer, full-few); full-few = omega (arith, full-few) }

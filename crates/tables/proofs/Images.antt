@@ -10,13 +10,13 @@ use lib.ListN.{length, getD, take, drop, length-append, take-append-drop}
 use lib.Seq.{sets, length-sets}
 use Rattle.model.specs.Site.{Row, Table, Site, isSite, mostPredicates, mostRows, noTable, tableAt}
 use Rattle.model.specs.Tables.{kindCount}
-use Rattle.model.specs.Store.{tableWords, rowsStart, storedStart, rowsIn, tablesIn, vpWords}
+use Rattle.model.specs.Store.{tableWords, rowsStart, storedStart, rowsIn, tablesIn, vpWords, vpEntryAt}
 use Rattle.model.proofs.Partition.{proper}
 use Rattle.model.proofs.Blocks.{Block, element-block, drop-block, getD-block}
 use Rattle.model.proofs.StoreLayout.{length-table, entry-and-rows, vpEntry, vp-entries}
 use Rattle.model.proofs.Stores.{rows-back, tables-back}
 use Rattle.tables.specs.SiteWords.{siteIn, ImageHolds, ImageOf}
-use Rattle.tables.proofs.Setting.{drop-sets, part-sets, part-block}
+use Rattle.model.proofs.Setting.{drop-sets, part-sets, part-block}
 
 -- a list by its front
 fronted : {l b : List ℕ} (n : ℕ) → take n l ≡ b → l ≡ b ++ drop n l
@@ -40,7 +40,7 @@ image-of site image yes-site long held =
 
 -- words that are set beside the entries and the rows
 pub image-kept : {count : ℕ} {image : List ℕ} → ImageOf count image → (i : ℕ) (vs : List ℕ)
-    → (i + length vs ≤ 3) ⊎ (3 + 3 * count ≤ i) → i + length vs ≤ rowsStart count
+    → (i + length vs ≤ 3) ⊎ (vpEntryAt count ≤ i) → i + length vs ≤ rowsStart count
     → ImageOf count (sets image i vs) × (siteIn count (sets image i vs) ≡ siteIn count image)
 image-kept {count} {image} o i vs apart before =
     let site = siteIn count image in
@@ -77,6 +77,10 @@ entries-inside {count} {image} o =
     let h : rowsStart (length (siteIn count image)) ≤ length image = omega (arith, o .long) in
     rw (o .predicates) at h
 
+-- so does that of each predicate
+pub entry-inside : {count : ℕ} {image : List ℕ} → ImageOf count image → (i : ℕ) → i < count → (i < mostPredicates) × (vpEntryAt i + 3 ≤ length image)
+entry-inside o i h = (omega (arith, few-predicates o), omega (arith, entries-inside o))
+
 -- ---- the tables
 
 -- rows, as the entry at a place counts and starts them
@@ -105,7 +109,7 @@ table-at {image} {place} {start} t entry words =
     }
 
 -- the table of each predicate
-pub table-in : {count : ℕ} {image : List ℕ} → ImageOf count image → (i : ℕ) → i < count → TableIn image (3 + 3 * i) (tableAt (siteIn count image) i .rows)
+pub table-in : {count : ℕ} {image : List ℕ} → ImageOf count image → (i : ℕ) → i < count → TableIn image (vpEntryAt i) (tableAt (siteIn count image) i .rows)
 table-in {count} {image} o i h =
     let site = siteIn count image in
     let p = length site in

@@ -1,8 +1,5 @@
 pub mod Groups
-pub mod Setting
-pub mod Rows
 pub mod Proper
-pub mod Kept
 pub mod Partners
 pub mod Images
 pub mod Entries

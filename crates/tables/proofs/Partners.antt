@@ -16,8 +16,8 @@ use Rattle.model.proofs.Booleans.{or-right}
 use Rattle.model.proofs.Membership.{any-append}
 use Rattle.model.proofs.Blocks.{Block}
 use Rattle.tables.specs.Columns.{columnOf, kindOfColumns}
-use Rattle.tables.proofs.Rows.{rowAt, rows-at}
-use Rattle.tables.proofs.Kept.{row-not-kept, row-kept, more-kept, kept-block}
+use Rattle.model.proofs.Rows.{rowAt, rows-at}
+use Rattle.model.proofs.FilteredRows.{row-filtered-out, row-filtered-in, more-filtered, filtered-block}
 
 -- ---- row i at p, and the first rows at q
 
@@ -59,19 +59,19 @@ module _ (w : List ℕ) (p i own q n other : ℕ) where
 
   pub row-not-left : p + 2 * (i + 1) ≤ length w → hasPartner w p i own q n other ≡ false → leftOf w p (i + 1) own q n other ≡ leftOf w p i own q n other
   unfolding leftOf hasPartner semiJoin
-  row-not-left h e = row-not-kept w p i isPartnered h e
+  row-not-left h e = row-filtered-out w p i isPartnered h e
 
   module _ (e : hasPartner w p i own q n other ≡ true) where
     pub row-left : p + 2 * (i + 1) ≤ length w → leftOf w p (i + 1) own q n other ≡ leftOf w p i own q n other ++ rowAt w p i ∷ []
     unfolding leftOf hasPartner semiJoin
-    row-left h = row-kept w p i isPartnered e h
+    row-left h = row-filtered-in w p i isPartnered e h
 
     -- it is left of all m rows too
     pub more-left : (m : ℕ) → i < m → p + 2 * m ≤ length w → length (leftOf w p i own q n other) < length (leftOf w p m own q n other)
     unfolding leftOf hasPartner semiJoin
-    more-left m l h = more-kept w p i isPartnered e m l h
+    more-left m l h = more-filtered w p i isPartnered e m l h
 
     -- behind those that are left of the first i
     pub left-block : (m : ℕ) → i < m → p + 2 * m ≤ length w → Block (leftOf w p m own q n other) (length (leftOf w p i own q n other)) (rowAt w p i ∷ [])
     unfolding leftOf hasPartner semiJoin
-    left-block m l h = kept-block w p i isPartnered e m l h
+    left-block m l h = filtered-block w p i isPartnered e m l h

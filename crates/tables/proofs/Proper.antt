@@ -19,7 +19,7 @@ use Rattle.model.proofs.Membership.{all-append, from-all, at-place}
 use Rattle.model.proofs.Order.{head-first, by-head, by-tail, ascends-snoc}
 use Rattle.model.proofs.Growing.{above-snoc}
 use Rattle.tables.specs.RowNumbers.{rowNumber}
-use Rattle.tables.proofs.Rows.{rowAt, rows-at, rows-words}
+use Rattle.model.proofs.Rows.{rowAt, rows-at, rows-words}
 
 module _ (test : ℕ → Bool) (w : List ℕ) (start : ℕ) where
   -- one word more

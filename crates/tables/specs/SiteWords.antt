@@ -5,19 +5,14 @@ use mathlib.Core.Bool.{Bool, true, _&&_}
 use mathlib.Core.List.{List, [], _∷_}
 use lib.ListN.{length, getD, take, drop}
 use Rattle.model.specs.Lists.{sameWords}
-use Rattle.model.specs.SiteFile.{Declaration, declaredTotal, declaredProper}
+use Rattle.model.specs.SiteFile.{Declaration, declaredTotal, declaredProper, declarations}
 use Rattle.model.specs.Site.{Site, isSite}
 use Rattle.model.specs.Tables.{semiJoin, kindAt, kindCount}
-use Rattle.model.specs.Store.{Reduced, semiJoins, rowsStart, rowsIn, tablesIn, storedStart, vpEntries, vpWords}
+use Rattle.model.specs.Store.{Reduced, semiJoins, rowsStart, rowsIn, tablesIn, storedStart, vpEntries, vpWords, vpEntryAt}
 use Rattle.tables.specs.Columns.{columnOf, kindOfColumns}
 use Rattle.tables.specs.declared.operands.Operands.{Operands}
 
 -- ---- the entries
-
--- the entries of declared predicates, whose rows begin at `here`
-abbrev pub declaredEntries : ℕ → List Declaration → List ℕ
-declaredEntries here [] = []
-declaredEntries here (d ∷ ds) = d .0 ∷ d .1 ∷ here ∷ declaredEntries (here + 2 * d .1) ds
 
 -- the declarations of k entries
 abbrev pub declaredIn : ℕ → List ℕ → List Declaration
@@ -32,7 +27,7 @@ declaredRows k entries = declaredTotal (declaredIn k entries)
 unfoldable pub entriesProper : ℕ → List ℕ → Bool
 entriesProper k words =
     let ds = declaredIn k (drop 3 words) in
-    declaredProper ds && sameWords (take (3 * k) (drop 3 words)) (declaredEntries (rowsStart k) ds)
+    declaredProper ds && sameWords (take (3 * k) (drop 3 words)) (vpEntries (rowsStart k) ds)
 
 -- ---- the site
 
@@ -42,7 +37,7 @@ siteIn count image = tablesIn count (drop 3 image) (drop (rowsStart count) image
 
 -- the entries and the rows of a site stand in an image
 pub record ImageHolds (site : Site) (image : List ℕ) : Type 0 where
-  pub entries : take (3 * length site) (drop 3 image) ≡ vpEntries (rowsStart (length site)) site
+  pub entries : take (3 * length site) (drop 3 image) ≡ vpEntries (rowsStart (length site)) (declarations site)
   pub rows : take (length (vpWords site)) (drop (rowsStart (length site)) image) ≡ vpWords site
 
 -- an image of `count` predicates
@@ -58,13 +53,9 @@ noReduced = record { full = []; rows = [] }
 abbrev pub reducedAt : Site → ℕ → Reduced
 reducedAt site x = getD (semiJoins site) x noReduced
 
--- the place of the semi-join of kind k of predicate p against predicate q, among those of `count` predicates
-abbrev pub semiJoinPlace : ℕ → ℕ → ℕ → ℕ → ℕ
-semiJoinPlace count p q k = (p * count + q) * kindCount + k
-
 -- the operands of the x-th semi-join: their tables stand in the image, and give what the semi-join leaves
 pub record OperandsOf (site : Site) (image : List ℕ) (x : ℕ) (r : Operands) : Type 0 where
-  pub entry-place : r .entry ≡ 3 + 3 * length site + 2 * x
+  pub entry-place : r .entry ≡ vpEntryAt (length site) + 2 * x
   pub inside : r .start + 2 * r .rows ≤ length image
   pub partner-inside : r .against + 2 * r .partners ≤ length image
   pub own-column : r .own < 2
@@ -75,13 +66,13 @@ pub record OperandsOf (site : Site) (image : List ℕ) (x : ℕ) (r : Operands) 
 
 -- the operands are the tables of predicates p and q, as their entries have them, and the columns of kind k
 pub record TablesOf (image : List ℕ) (p q k : ℕ) (r : Operands) : Type 0 where
-  pub start : r .start ≡ getD image (3 + 3 * p + 2) 0
-  pub rows : r .rows ≡ getD image (3 + 3 * p + 1) 0
-  pub against : r .against ≡ getD image (3 + 3 * q + 2) 0
-  pub partners : r .partners ≡ getD image (3 + 3 * q + 1) 0
+  pub start : r .start ≡ getD image (vpEntryAt p + 2) 0
+  pub rows : r .rows ≡ getD image (vpEntryAt p + 1) 0
+  pub against : r .against ≡ getD image (vpEntryAt q + 2) 0
+  pub partners : r .partners ≡ getD image (vpEntryAt q + 1) 0
   pub own-kind : columnOf (r .own) ≡ kindAt k .0
   pub partner-kind : columnOf (r .other) ≡ kindAt k .1
 
 -- the entries of an image have the row counts of the semi-joins
 pub record CountsIn (count : ℕ) (image : List ℕ) : Type 0 where
-  pub counts : (x : ℕ) → x < count * (count * kindCount) → getD image (3 + 3 * count + 2 * x) 0 ≡ length (reducedAt (siteIn count image) x .rows)
+  pub counts : (x : ℕ) → x < count * (count * kindCount) → getD image (vpEntryAt count + 2 * x) 0 ≡ length (reducedAt (siteIn count image) x .rows)

@@ -1,6 +1,7 @@
 // Numbers in bytes, and rows and the operands of semi-joins in words.
 pub mod copying;
 pub mod kinds;
+pub mod layout;
 pub mod limits;
 pub mod number;
 pub mod operands;

@@ -1,20 +1,12 @@
-ghost use mathlib.Core.Path.{_≡_};
-ghost use Prim.Native.Nat.{_<_, _≤_, _*_};
-ghost use Rattle.model.specs.Site.{mostPredicates};
+ghost use Prim.Native.Nat.{_<_, _*_};
 ghost use Rattle.model.specs.Tables.{kindCount};
-ghost use Rattle.model.specs.Store.{rowsStart};
-ghost use Rattle.tables.specs.SiteWords.{siteIn, ImageOf, semiJoinPlace, OperandsOf, TablesOf};
+ghost use Rattle.model.specs.Store.{semiJoinPlace};
+ghost use Rattle.tables.specs.SiteWords.{siteIn, ImageOf, OperandsOf, TablesOf};
 use crate::kinds::KINDS;
 use crate::kinds::own_column;
 use crate::kinds::partner_column;
-
-// The first word after the entries of p predicates.
-pub fn rows_start(p: usize) -> usize
-    requires { ⌜ p ≤ mostPredicates ⌝ }
-    ensures { λ r. ⌜ r ≡ rowsStart p ⌝ }
-{
-    3 + 3 * p + 2 * (p * (p * KINDS))
-}
+use crate::layout::semi_join_entry_at;
+use crate::layout::table_entry;
 
 // The two tables of a semi-join in an image, and the columns that are compared.
 pub struct Operands {
@@ -36,17 +28,17 @@ pub fn operands_of(image: &[u32], count: usize, p: usize, q: usize, k: usize) ->
     ensures { λ r. ⌜ OperandsOf (siteIn count (now (image .entry))) (now (image .entry)) (semiJoinPlace count p q k) r ⌝ }
     ensures { λ r. ⌜ TablesOf (now (image .entry)) p q k r ⌝ }
 {
-    let row_entry = 3 + 3 * p;
-    let partner_entry = 3 + 3 * q;
+    let table = table_entry(image, p);
+    let partner = table_entry(image, q);
     let own = own_column(k);
     let other = partner_column(k);
     Operands {
-        entry: 3 + 3 * count + 2 * ((p * count + q) * KINDS + k),
-        start: image[row_entry + 2] as usize,
-        rows: image[row_entry + 1] as usize,
+        entry: semi_join_entry_at(count, p, q, k),
+        start: table.start,
+        rows: table.rows,
         own,
-        against: image[partner_entry + 2] as usize,
-        partners: image[partner_entry + 1] as usize,
+        against: partner.start,
+        partners: partner.rows,
         other,
     }
 }

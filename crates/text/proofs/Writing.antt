@@ -6,7 +6,7 @@ use mathlib.Core.Path.{_≡_, refl, sym}
 use mathlib.Core.List.{List, [], _++_}
 use lib.ListN.{length, take, length-append}
 use lib.Seq.{take-append-seam, sets, sets-eq, length-sets}
-use Rattle.tables.proofs.Setting.{sets-append}
+use Rattle.model.proofs.Setting.{sets-append}
 
 -- the front is the text
 pub front-written : (l xs : List ℕ) → length xs ≤ length l → take (length xs) (sets l 0 xs) ≡ xs

@@ -1,5 +1,5 @@
 -- The invariant: the entries of the first x semi-joins are written; the numbers are small, and the image is long enough.
-use Prim.Native.Nat.{_+_, _*_, _-_, _≤_, _<_}
+use Prim.Native.Nat.{_*_, _-_, _≤_, _<_}
 use native.Mathlib.Omega.{arith}
 use mathlib.Core.Path.{_≡_, refl, sym, _∙_}
 use mathlib.Core.Logic.{⊎-elim}
@@ -7,11 +7,11 @@ use mathlib.Core.Bool.{true, false}
 use lib.ListN.{length, length-set}
 use borrow.Author.Needs.{needs}
 use Rattle.model.specs.Site.{mostPredicates}
-use Rattle.model.specs.Store.{semiJoins}
+use Rattle.model.specs.Store.{semiJoins, vpEntryAt}
 use Rattle.building.specs.Image.{imageWords}
 use Rattle.tables.specs.SiteWords.{siteIn}
 use Rattle.tables.proofs.Images.{mostSemiJoins, few-predicates, few-semi-joins, stored-start-limit, entries-inside}
-use Rattle.tables.proofs.Entries.{Counted, counted-kept, counted-of}
+use Rattle.tables.proofs.Entries.{Counted, counted-stored, counted-of}
 use Rattle.tables.proofs.Reduced.{length-all-of}
 use Rattle.building.proofs.Filling.{Filled, filled-none, filled-more, filled-image, filled-written, filled-used}
 use Rattle.building.proofs.builder.fill_entries.Statement.{statement}
@@ -20,7 +20,7 @@ use Rattle.building.proofs.builder.fill_entries.Tie as tie
 abbrev Inv-loop : tie.InvT-loop
 Inv-loop t count image₀ first here₀ x₀ x-end image here x =
     (x ≤ x-end) × (count ≤ mostPredicates) × (x-end ≤ mostSemiJoins) × (first ≤ imageWords) × (length image ≡ length image₀)
-    × Filled t (3 + 3 * count) first (semiJoins (siteIn count image₀)) image₀ image here x
+    × Filled t (vpEntryAt count) first (semiJoins (siteIn count image₀)) image₀ image here x
 
 abbrev μ-loop : tie.MeasureT-loop
 μ-loop t count image₀ first here₀ x₀ x-end image here x = x-end - x
@@ -36,7 +36,7 @@ loop-holds c =
     let a = c .before .args in
     let o = c .before .pre .0 in
     let few = few-predicates o in
-    (omega arith, few, few-semi-joins few, rw (c .before .pre .2) (stored-start-limit _ (o .proper)), refl, filled-none (a .t) (3 + 3 * a .count) (a .first) _ (a .image .now))
+    (omega arith, few, few-semi-joins few, rw (c .before .pre .2) (stored-start-limit _ (o .proper)), refl, filled-none (a .t) (vpEntryAt (a .count)) (a .first) _ (a .image .now))
 
 operands-at-requires : tie.Need-operands-at-requires Inv-loop μ-loop
 operands-at-requires c κs =
@@ -123,7 +123,7 @@ loop-again c =
     let inside : l .loop .x < length (semiJoins (siteIn (s .args .count) (s .args .image .now))) =
     rw (length-all-of (s .pre .0)) (c .before .before .before .before .before .before .loop-test .taken) in
     let n = counted (c .before .before) in
-    let kept = c .before .is-stored .ensures ∙ counted-kept n (s .args .t) in
+    let kept = c .before .is-stored .ensures ∙ counted-stored n (s .args .t) in
     let same = l .loop .inv .4 in (
       omega arith,
       l .loop .inv .1,

@@ -9,10 +9,10 @@ use lib.Seq.{length-sets}
 use mir.Facts.{fits-widen}
 use borrow.Author.Needs.{needs}
 use Rattle.model.specs.Site.{mostPredicates}
-use Rattle.model.specs.Store.{isKept, semiJoins}
+use Rattle.model.specs.Store.{isStoredTable, semiJoins, vpEntryAt}
 use Rattle.tables.specs.SiteWords.{siteIn, reducedAt}
 use Rattle.tables.proofs.Images.{mostSemiJoins, few-predicates, few-semi-joins, entries-inside}
-use Rattle.tables.proofs.Entries.{Counted, counted-kept, counted-of}
+use Rattle.tables.proofs.Entries.{Counted, counted-stored, counted-of}
 use Rattle.tables.proofs.Reduced.{length-all-of}
 use Rattle.building.proofs.Filling.{Stored, stored-none, stored-more, stored-room, stored-all}
 use Rattle.building.proofs.builder.write_stored.Statement.{statement}
@@ -65,7 +65,7 @@ cast-kept c = fits-widen tt (c .shared-slice-known2 .given _)
 counted : (c : tie.After-shared-slice-known2 Inv-loop μ-loop)
     → let l = c .before .before .before in
     let a = l .before .before .before .args in
-    Counted (siteIn (a .count) (a .image .now)) (l .loop .x) (getD (a .image .now) (3 + 3 * a .count + 2 * l .loop .x) 0) (c .before .operands-at .result .rows)
+    Counted (siteIn (a .count) (a .image .now)) (l .loop .x) (getD (a .image .now) (vpEntryAt (a .count) + 2 * l .loop .x) 0) (c .before .operands-at .result .rows)
 counted c =
     let l = c .before .before .before in
     let s = l .before .before .before in
@@ -76,8 +76,8 @@ counted c =
 kept : (c : tie.After-is-stored Inv-loop μ-loop)
     → let l = c .before .before .before .before in
     let a = l .before .before .before .args in
-    c .is-stored .result ≡ isKept (a .t) (reducedAt (siteIn (a .count) (a .image .now)) (l .loop .x))
-kept c = c .is-stored .ensures ∙ counted-kept (counted (c .before)) _
+    c .is-stored .result ≡ isStoredTable (a .t) (reducedAt (siteIn (a .count) (a .image .now)) (l .loop .x))
+kept c = c .is-stored .ensures ∙ counted-stored (counted (c .before)) _
 
 -- the semi-join is one of the site
 inside : (c : tie.In-loop Inv-loop μ-loop)

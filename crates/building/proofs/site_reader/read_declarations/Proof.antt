@@ -15,11 +15,10 @@ use Rattle.model.specs.Lists.{sum, aboveLast}
 use Rattle.model.specs.Reader.{refused, repeated}
 use Rattle.model.specs.Site.{mostRows}
 use Rattle.model.specs.SiteFile.{Declaration, declaration}
-use Rattle.model.specs.Store.{rowsStart}
+use Rattle.model.specs.Store.{rowsStart, vpEntries}
 use Rattle.model.proofs.Growing.{sum-snoc}
 use Rattle.model.proofs.Growing.{above-none, above-snoc}
 use Rattle.tables.specs.NumberAt.{numberAt}
-use Rattle.tables.specs.SiteWords.{declaredEntries}
 use Rattle.building.specs.Image.{imageWords}
 use Rattle.tables.specs.declared.number.Number.the-variants.{Value}
 use Rattle.building.proofs.Reading.{no-term, wide-term, term-below, no-count, many-rows, declaration-given}
@@ -34,7 +33,7 @@ record DeclarationsRead (s : List ℕ) (at count : ℕ) (image₀ image : List �
   done : List Declaration
   many : length done ≡ i
   part : PartRead declaration count (drop at s) done (drop next s)
-  written : image ≡ sets image₀ 3 (declaredEntries (rowsStart count) done)
+  written : image ≡ sets image₀ 3 (vpEntries (rowsStart count) done)
   size : length image ≡ length image₀
   rows : total ≡ sum (λ d. d .1) done
   few : total ≤ mostRows

@@ -19,7 +19,7 @@ use Rattle.tables.specs.NumberAt.{numberAt}
 use Rattle.tables.specs.declared.number.Number.the-variants.{Value}
 use Rattle.building.proofs.Reading.{no-subject, wide-subject, no-object, wide-object, row-below, row-given}
 use Rattle.model.proofs.Readers.{PartRead, none-read, all-read, next-refused, next-read}
-use Rattle.tables.proofs.Rows.{row-written}
+use Rattle.model.proofs.Rows.{row-written}
 use Rattle.building.proofs.site_reader.read_rows.Statement.{statement}
 use Rattle.building.proofs.site_reader.read_rows.Tie as tie
 

@@ -7,12 +7,12 @@ use lib.ListN.{length, getD, drop}
 use lib.Seq.{sets, length-sets}
 use borrow.Author.Needs.{needs}
 use Rattle.model.specs.Site.{Site, mostRows, rowTotal}
-use Rattle.model.specs.Store.{rowsStart, tableWords, vpWords}
+use Rattle.model.specs.Store.{rowsStart, tableWords, vpWords, vpEntryAt}
 use Rattle.model.proofs.Growing.{sum-snoc}
 use Rattle.building.specs.Image.{imageWords}
 use Rattle.building.proofs.Reading.{was-refused, was-taken, rows-count, TablesRead, no-table-read, all-tables, table-fits, table-refused, table-read}
 use Rattle.building.proofs.Declarations.{rows-room}
-use Rattle.tables.proofs.Setting.{getD-before}
+use Rattle.model.proofs.Setting.{getD-before}
 use Rattle.building.proofs.Writing.{table-written}
 use Rattle.building.proofs.site_reader.read_tables.Statement.{statement}
 use Rattle.building.proofs.site_reader.read_tables.Tie as tie
@@ -34,11 +34,11 @@ abbrev μ-loop : tie.MeasureT-loop
 
 -- the entries stand before the rows that are written
 count-is : (c : tie.In-loop Inv-loop μ-loop) → let l = c .before in
-    getD (l .loop .image) (3 + 3 * l .loop .i + 1) 0 ≡ getD (l .before .before .before .before .args .image .now) (3 + 3 * l .loop .i + 1) 0
+    getD (l .loop .image) (vpEntryAt (l .loop .i) + 1) 0 ≡ getD (l .before .before .before .before .args .image .now) (vpEntryAt (l .loop .i) + 1) 0
 count-is c = let v = c .before .loop .inv in rw (v .written) (getD-before _ _ (vpWords (v .done)) _ 0 (omega arith))
 
 rows-fit : (c : tie.In-loop Inv-loop μ-loop) → let l = c .before in
-    l .loop .to + 2 * getD (l .loop .image) (3 + 3 * l .loop .i + 1) 0 ≤ imageWords
+    l .loop .to + 2 * getD (l .loop .image) (vpEntryAt (l .loop .i) + 1) 0 ≤ imageWords
 rows-fit c = omega (arith, table-fits _ _ _ (c .before .loop .inv .part) (c .loop-test .taken) (count-is c))
 
 rows-start-requires : tie.Need-rows-start-requires Inv-loop μ-loop

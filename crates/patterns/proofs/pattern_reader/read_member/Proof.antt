@@ -6,8 +6,8 @@ use borrow.Author.Tests.{le-leb, lt-leb}
 use Rattle.model.specs.Store.{decoded}
 use Rattle.model.specs.Pattern.{mostVariables, variablesWith}
 use Rattle.model.specs.declared.pattern.Position.{Position}
-use Rattle.lookups.specs.Lookups.{placeOf}
-use Rattle.lookups.specs.declared.lookup.Found.the-variants.{At}
+use Rattle.catalog.specs.Lookups.{placeOf}
+use Rattle.catalog.specs.declared.lookup.Found.the-variants.{At}
 use Rattle.patterns.proofs.PatternReading.{passed-limit, PositionRead, PositionAsked, no-subject, subject-refused, no-predicate, predicate-variable, wide-predicate, undeclared, no-object, object-refused, member-given}
 use Rattle.patterns.proofs.pattern_reader.read_member.Statement.{statement}
 use Rattle.patterns.proofs.pattern_reader.read_member.Tie as tie

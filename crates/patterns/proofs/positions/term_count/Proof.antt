@@ -4,7 +4,7 @@ use native.Mathlib.Omega.{arith}
 use mathlib.Core.Path.{_≡_, sym, ap, _∙_}
 use mathlib.Core.List.{List, [], _∷_}
 use lib.ListN.{length}
-use Rattle.model.specs.Lists.{keep}
+use Rattle.model.specs.Lists.{filter}
 use Rattle.model.specs.Planner.{isFixed}
 use Rattle.model.specs.declared.pattern.Position.{Position}
 use Rattle.model.specs.declared.pattern.Position.the-variants.{Term, Var}
@@ -12,7 +12,7 @@ use borrow.Author.Needs.{needs}
 use Rattle.patterns.proofs.positions.term_count.Statement.{statement}
 use Rattle.patterns.proofs.positions.term_count.Tie as tie
 
-one-more : (x : Position) (xs : List Position) → length (keep isFixed (x ∷ xs)) ≡ length (keep isFixed (x ∷ [])) + length (keep isFixed xs)
+one-more : (x : Position) (xs : List Position) → length (filter isFixed (x ∷ xs)) ≡ length (filter isFixed (x ∷ [])) + length (filter isFixed xs)
 one-more (Term t) xs = omega arith
 one-more (Var v) xs = omega arith
 
@@ -34,7 +34,7 @@ add-result-2 c = search needs
 returns : tie.Need-returns
 returns c = let q = c .before .before .before .args .q in
     rw (c .before .before .fixed .ensures .0, c .before .fixed2 .ensures .0, c .fixed3 .ensures .0)
-    (sym (one-more (q .subject) (q .predicate ∷ q .object ∷ []) ∙ ap (λ (n : ℕ). length (keep isFixed (q .subject ∷ [])) + n) (one-more (q .predicate) (q .object ∷ [])) ∙ sym (add-assoc _ _ _)))
+    (sym (one-more (q .subject) (q .predicate ∷ q .object ∷ []) ∙ ap (λ (n : ℕ). length (filter isFixed (q .subject ∷ [])) + n) (one-more (q .predicate) (q .object ∷ [])) ∙ sym (add-assoc _ _ _)))
 
 pub term-count-spec : {M : Type 1} → statement M
 term-count-spec =

@@ -3,12 +3,12 @@ use native.Mathlib.Omega.{arith}
 use mathlib.Core.Path.{sym, _∙_}
 use borrow.Author.Needs.{needs}
 use borrow.Author.Tests.{not-true, not-false}
-use Rattle.lookups.specs.Lookups.{Passed}
+use Rattle.catalog.specs.Lookups.{Validated}
 use Rattle.patterns.proofs.CheckReplies.{no-store, store-passed}
 use Rattle.patterns.proofs.questions.read_check.Statement.{statement}
 use Rattle.patterns.proofs.questions.read_check.Tie as tie
 
-passed : (c : tie.Else1) → Passed (c .before .before .before .before .args .w .now)
+passed : (c : tie.Else1) → Validated (c .before .before .before .before .args .w .now)
 passed c = sym (c .before .is-store .ensures) ∙ not-false _ (c .if1 .left)
 
 is-store-requires : tie.Need-is-store-requires

@@ -4,7 +4,7 @@ use native.Mathlib.Omega.{arith}
 use mathlib.Core.Path.{_≡_, refl, sym, ap, _∙_}
 use lib.ListN.{length, length-set}
 use borrow.Author.Needs.{needs}
-use Rattle.model.specs.Lists.{keep}
+use Rattle.model.specs.Lists.{filter}
 use Rattle.model.specs.Store.{decoded}
 use Rattle.model.specs.Pattern.{positions}
 use Rattle.model.specs.Planner.{isFixed}
@@ -73,7 +73,7 @@ loop-again c =
       simp length-set size′,
       simp length-set size″,
       chosen-more _ _ v (omega arith) (omega arith) (omega arith) (e .0) (e .1)
-          (c .term-count .ensures ∙ ap (λ q. length (keep isFixed (positions q))) (sym (triple-member (g .args .t2) (l .i) (t .loop-test .taken)))),
+          (c .term-count .ensures ∙ ap (λ q. length (filter isFixed (positions q))) (sym (triple-member (g .args .t2) (l .i) (t .loop-test .taken)))),
     )
 
 returns : tie.Need-returns Inv-loop μ-loop

@@ -1,5 +1,6 @@
 -- The places are picked one after the other. The invariant: the order begins with those picked, their steps stand in the array, and each place has its two notes.
 use Prim.Native.Nat.{ℕ, _-_, _<_}
+use native.Mathlib.Nat.{le-trans}
 use native.Mathlib.Omega.{arith}
 use mathlib.Core.Path.{_≡_, refl, _∙_}
 use mathlib.Core.Bool.{Bool, false}
@@ -16,7 +17,8 @@ use Rattle.model.proofs.Choosing.{chosen-table}
 use Rattle.patterns.specs.Members.{patternIn}
 use Rattle.patterns.specs.declared.pattern.Pattern.{Pattern as Members}
 use Rattle.patterns.proofs.MemberLaws.{pattern-length}
-use Rattle.plans.proofs.PlanReading.{choice-small, place-noted}
+use Rattle.plans.proofs.PlanReading.{place-noted}
+use Rattle.model.proofs.Places.{choice-small}
 use Rattle.planning.proofs.OrderSteps.{joins-more, Begun, stepAt, begun-none, begun-more, begun-inside, place-written, plan-written}
 use Rattle.planning.proofs.planner.plan_pattern.Statement.{statement}
 use Rattle.planning.proofs.planner.plan_pattern.Tie as tie
@@ -94,7 +96,7 @@ cast-steps-2 : tie.Need-cast-steps-2 Inv-loop μ-loop
 cast-steps-2 c =
     let tables = head c .before .choose-tables .ensures in
     let cells = start (head c) .pre .1 .counted in
-    record { fits = rw (tables .choice _ (inside c)) (choice-small _ _ _ _ (chosen-table _ _ _ .allowed) (rw (pattern-length cells) (cells .few))) }
+    record { fits = rw (tables .choice _ (inside c)) (le-trans (choice-small _ _ (rw (pattern-length cells) (cells .few)) _ _ (chosen-table _ _ _ .allowed)) (omega arith)) }
 
 mul-steps-3 : tie.Need-mul-steps-3 Inv-loop μ-loop
 mul-steps-3 c = omega arith

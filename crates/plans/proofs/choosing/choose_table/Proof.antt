@@ -5,7 +5,7 @@ use mathlib.Core.Path.{_∙_}
 use mathlib.Core.Logic.{⊎-elim}
 use borrow.Author.Needs.{needs}
 use Rattle.model.specs.Store.{decoded}
-use Rattle.lookups.proofs.Lookups.{passed-site}
+use Rattle.catalog.proofs.Lookups.{passed-site}
 use Rattle.patterns.specs.Members.{patternIn}
 use Rattle.patterns.proofs.MemberLaws.{pattern-length}
 use Rattle.plans.proofs.Chooseable.{full-rows, BestTo, best-none, best-all, best-better, best-kept, best-closed}

@@ -6,7 +6,7 @@ use borrow.Author.Tests.{not-true, not-false}
 use Rattle.model.specs.Store.{decoded}
 use Rattle.plans.specs.Choices.{chooseableTable}
 use Rattle.plans.specs.declared.choosing.Chooseable.the-variants.{Rows, Nothing}
-use Rattle.lookups.proofs.Lookups.{passed-threshold, passed-site}
+use Rattle.catalog.proofs.Lookups.{passed-threshold, passed-site}
 use Rattle.plans.proofs.Chooseable.{table-few, left-few, open-by}
 use Rattle.plans.proofs.choosing.reduced_table.Statement.{statement}
 use Rattle.plans.proofs.choosing.reduced_table.Tie as tie

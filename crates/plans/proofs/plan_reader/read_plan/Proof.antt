@@ -16,6 +16,7 @@ use Rattle.model.specs.Pattern.{mostTriplePatterns}
 use Rattle.model.specs.Plan.{Plan, mayChoose, placesOf}
 use Rattle.model.specs.PlanFile.{step, readPlan}
 use Rattle.model.specs.Calls.{planNumbers}
+use Rattle.model.proofs.Places.{choice-small}
 use Rattle.model.proofs.Readers.{PartRead, none-read, all-read, next-refused, next-read}
 use Rattle.tables.specs.NumberAt.{numberAt}
 use Rattle.tables.specs.declared.number.Number.the-variants.{Value}
@@ -23,7 +24,7 @@ use Rattle.patterns.specs.Members.{patternIn}
 use Rattle.patterns.specs.declared.pattern.Pattern.{Pattern as Members}
 use Rattle.patterns.proofs.MemberLaws.{pattern-length}
 use Rattle.plans.proofs.PlanReading.{isOpen, place-absent, place-taken, place-open, no-place, place-refused, no-choice, choice-refused, step-given}
-use Rattle.plans.proofs.PlanReading.{steps-refused, bytes-left, plan-given, choice-small, place-noted, step-written}
+use Rattle.plans.proofs.PlanReading.{steps-refused, bytes-left, plan-given, place-noted, step-written}
 use Rattle.plans.proofs.plan_reader.read_plan.Statement.{statement}
 use Rattle.plans.proofs.plan_reader.read_plan.Tie as tie
 
@@ -193,7 +194,7 @@ array-write-steps c = search needs
 cast-steps-2 : tie.Need-cast-steps-2 Inv-loop μ-loop
 cast-steps-2 c =
     let held = c .before .before .before .before .before .before .before .before .before .before .before .before .before .before .before .before .before .pre .1 .counted in
-    record { fits = choice-small _ _ _ _ (is-choice c) (rw (pattern-length held) (held .few)) }
+    record { fits = let small = choice-small _ _ (rw (pattern-length held) (held .few)) _ _ (is-choice c) in omega arith }
 
 mul-steps-2 : tie.Need-mul-steps-2 Inv-loop μ-loop
 mul-steps-2 c = search needs

@@ -6,7 +6,7 @@ use mathlib.Core.Bool.{true, false}
 use lib.ListN.{length, length-set}
 use borrow.Author.Needs.{needs}
 use Rattle.model.specs.Tables.{semiJoin}
-use Rattle.tables.proofs.Rows.{Written, none-written, length-written, row-written}
+use Rattle.model.proofs.Rows.{Written, none-written, length-written, row-written}
 use Rattle.tables.proofs.Partners.{hasPartner, partner-found, no-partner-yet, leftOf, row-not-left, row-left, more-left}
 use Rattle.reducing.proofs.semi_join_write.write_semi_join.Statement.{statement}
 use Rattle.reducing.proofs.semi_join_write.write_semi_join.Tie as tie

@@ -7,7 +7,7 @@ use mathlib.Core.Path.{_≡_, refl, _∙_}
 use lib.ListN.{length, take, drop, length-drop}
 use lib.Seq.{sets, take-suc, getD-drop, length-take-le}
 use borrow.Author.Needs.{needs}
-use Rattle.tables.proofs.Setting.{sets-append}
+use Rattle.model.proofs.Setting.{sets-append}
 use Rattle.tables.proofs.copying.copy_words.Statement.{statement}
 use Rattle.tables.proofs.copying.copy_words.Tie as tie
 

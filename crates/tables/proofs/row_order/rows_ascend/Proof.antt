@@ -11,7 +11,7 @@ use Rattle.model.specs.Lists.{ascends}
 use Rattle.model.specs.Numbers.{mostTerm, isTerm}
 use Rattle.model.specs.Site.{rowBefore}
 use Rattle.model.specs.Store.{rowsIn}
-use Rattle.tables.proofs.Rows.{rows-at}
+use Rattle.model.proofs.Rows.{rows-at}
 use Rattle.tables.proofs.Proper.{row-more, word-passes, number-before, number-not-before}
 use Rattle.tables.proofs.row_order.rows_ascend.Statement.{statement}
 use Rattle.tables.proofs.row_order.rows_ascend.Tie as tie

@@ -5,7 +5,7 @@ use mathlib.Core.Path.{refl, sym, ap}
 use lib.ListN.{length}
 use borrow.Author.Needs.{needs}
 use Rattle.model.specs.Text.{decimal}
-use Rattle.tables.proofs.Setting.{sets-append}
+use Rattle.model.proofs.Setting.{sets-append}
 use Rattle.text.proofs.Decimals.{decimal-digit, decimal-more, decimal-longer}
 use borrow.Fn.Kinds.{In}
 use borrow.Fn.PlainCycle.{Measures, is, falls, and}

@@ -6,7 +6,7 @@ use mathlib.Core.Path.{_≡_, refl}
 use lib.ListN.{length, take}
 use lib.Seq.{sets, take-suc, take-length, length-take-le}
 use borrow.Author.Needs.{needs}
-use Rattle.tables.proofs.Setting.{sets-append}
+use Rattle.model.proofs.Setting.{sets-append}
 use Rattle.text.proofs.lines.put_bytes.Statement.{statement}
 use Rattle.text.proofs.lines.put_bytes.Tie as tie
 

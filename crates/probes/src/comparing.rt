@@ -1,0 +1,173 @@
+ghost use mathlib.Core.Path.{_≡_};
+ghost use mathlib.Core.Logic.{_≢_};
+ghost use Prim.Native.Nat.{_<_, _≤_, _+_, _*_};
+ghost use lib.ListN.{length, take, drop};
+ghost use Rattle.model.specs.Lists.{filter, sameWords};
+ghost use Rattle.model.specs.Tables.{semiJoin};
+ghost use Rattle.model.specs.Store.{rowsIn, tableWords};
+ghost use Rattle.tables.specs.Columns.{kindOfColumns};
+ghost use Rattle.searching.specs.Search.{Ascending, hasWord};
+ghost use Rattle.statistics.specs.Searching.{Searchable, ObjectsSorted};
+ghost use Rattle.statistics.specs.Ranges.{hasValue};
+ghost use Rattle.probes.specs.Marks.{Marked};
+ghost use Rattle.probes.specs.StoredRows.{standsNext};
+use crate::marks::mark_values;
+use crate::values::has_partner;
+use crate::walking::walk_to;
+use tables::operands::Operands;
+
+// Whether a stored row is left at `next`, and is the one at `row`.
+fn stands_next(w: &[u32], next: usize, end: usize, row: usize) -> bool
+    requires { ⌜ (next ≢ end → next + 2 ≤ length (now w)) × (row + 2 ≤ length (now w)) ⌝ }
+    ensures { λ r. ⌜ r ≡ standsNext (now (w .entry)) next end row ⌝ }
+{
+    if next == end {
+        return false;
+    }
+    if w[next] != w[row] {
+        return false;
+    }
+    w[next + 1] == w[row + 1]
+}
+
+// Whether the k rows at `at` are those that are left, in their order: each row's partner is searched.
+fn compare_searched(
+    w: &[u32],
+    objects: &[u32],
+    first: usize,
+    o: Operands,
+    marks: &[u8],
+    at: usize,
+    k: usize,
+) -> bool
+    requires { ⌜ (o .start + 2 * o .rows ≤ length (now w)) × Searchable (now w) (now objects) first (o .against) (o .partners) × (o .own < 2) × (o .other < 2) ⌝ }
+    requires { ⌜ Marked (hasValue (now w) (o .against) (o .partners) (o .other)) (now marks) ⌝ }
+    requires { ⌜ (at + 2 * k ≤ length (now w)) × (o .other ≡ 1 → ObjectsSorted (now w) (now objects) first (o .against) (o .partners)) ⌝ }
+    ensures { λ r. ⌜ r ≡ sameWords (take (2 * k) (drop at (now (w .entry)))) (tableWords (semiJoin (kindOfColumns (o .own) (o .other)) (rowsIn (o .rows) (drop (o .start) (now (w .entry)))) (rowsIn (o .partners) (drop (o .against) (now (w .entry)))))) ⌝ }
+{
+    let p = o.start;
+    let m = o.rows;
+    let own = o.own;
+    let q = o.against;
+    let n = o.partners;
+    let other = o.other;
+    let end = at + 2 * k;
+    let mut next = at;
+    for i in 0..m {
+        let row = p + 2 * i;
+        let value = w[row + own];
+        if has_partner(w, objects, first, marks, q, n, other, value) {
+            if !stands_next(w, next, end, row) {
+                return false;
+            }
+            next += 2;
+        }
+    }
+    next == end
+}
+
+// Whether the k rows at `at` are those of m rows whose subject is among n words, in their order. Both ascend, so that they are walked once,
+// side by side.
+fn compare_walked(
+    w: &[u32],
+    start: usize,
+    m: usize,
+    words: &[u32],
+    base: usize,
+    stride: usize,
+    n: usize,
+    marks: &[u8],
+    at: usize,
+    k: usize,
+) -> bool
+    requires { ⌜ (start + 2 * m ≤ length (now w)) × Ascending (now w) start 2 m × (at + 2 * k ≤ length (now w)) ⌝ }
+    requires { ⌜ (0 < stride) × (base + stride * n ≤ length (now words)) × Ascending (now words) base stride n × Marked (hasWord (now words) base stride n) (now marks) ⌝ }
+    ensures { λ r. ⌜ r ≡ sameWords (take (2 * k) (drop at (now (w .entry)))) (tableWords (filter (λ row. hasWord (now (words .entry)) base stride n (row .0)) (rowsIn m (drop start (now (w .entry)))))) ⌝ }
+{
+    let end = at + 2 * k;
+    let mut here = at;
+    let mut place: usize = 0;
+    for i in 0..m {
+        let row = start + 2 * i;
+        let value = w[row];
+        let met = walk_to(words, base, stride, n, marks, place, value);
+        place = met.place;
+        if met.found {
+            if !stands_next(w, here, end, row) {
+                return false;
+            }
+            here += 2;
+        }
+    }
+    here == end
+}
+
+// The rows that are left, compared: where the own column is the subject by a walk, else by search.
+fn compare_marked(
+    w: &[u32],
+    objects: &[u32],
+    first: usize,
+    o: Operands,
+    marks: &[u8],
+    at: usize,
+    k: usize,
+) -> bool
+    requires { ⌜ Searchable (now w) (now objects) first (o .start) (o .rows) × Searchable (now w) (now objects) first (o .against) (o .partners) × (o .own < 2) × (o .other < 2) ⌝ }
+    requires { ⌜ Marked (hasValue (now w) (o .against) (o .partners) (o .other)) (now marks) ⌝ }
+    requires { ⌜ (at + 2 * k ≤ length (now w)) × (o .other ≡ 1 → ObjectsSorted (now w) (now objects) first (o .against) (o .partners)) ⌝ }
+    ensures { λ r. ⌜ r ≡ sameWords (take (2 * k) (drop at (now (w .entry)))) (tableWords (semiJoin (kindOfColumns (o .own) (o .other)) (rowsIn (o .rows) (drop (o .start) (now (w .entry)))) (rowsIn (o .partners) (drop (o .against) (now (w .entry)))))) ⌝ }
+{
+    if o.own != 0 {
+        return compare_searched(w, objects, first, o, marks, at, k);
+    }
+    if o.other == 0 {
+        return compare_walked(
+            w,
+            o.start,
+            o.rows,
+            w,
+            o.against,
+            2,
+            o.partners,
+            marks,
+            at,
+            k,
+        );
+    }
+    let copy = (o.against - first) / 2;
+    compare_walked(
+        w,
+        o.start,
+        o.rows,
+        objects,
+        copy,
+        1,
+        o.partners,
+        marks,
+        at,
+        k,
+    )
+}
+
+// The same, with the partners' values marked or not.
+pub fn compare_partnered(
+    w: &[u32],
+    objects: &[u32],
+    first: usize,
+    o: Operands,
+    marked: bool,
+    at: usize,
+    k: usize,
+) -> bool
+    requires { ⌜ Searchable (now w) (now objects) first (o .start) (o .rows) × Searchable (now w) (now objects) first (o .against) (o .partners) × (o .own < 2) × (o .other < 2) ⌝ }
+    requires { ⌜ (at + 2 * k ≤ length (now w)) × (o .other ≡ 1 → ObjectsSorted (now w) (now objects) first (o .against) (o .partners)) ⌝ }
+    ensures { λ r. ⌜ r ≡ sameWords (take (2 * k) (drop at (now (w .entry)))) (tableWords (semiJoin (kindOfColumns (o .own) (o .other)) (rowsIn (o .rows) (drop (o .start) (now (w .entry)))) (rowsIn (o .partners) (drop (o .against) (now (w .entry)))))) ⌝ }
+{
+    if !marked {
+        // Fewer marks than remainders: none are kept.
+        return compare_marked(w, objects, first, o, &[0u8; 1], at, k);
+    }
+    let mut marks = [0u8; 1024];
+    mark_values(w, o.against, o.partners, o.other, &mut marks);
+    compare_marked(w, objects, first, o, &marks, at, k)
+}

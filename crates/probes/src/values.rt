@@ -1,0 +1,38 @@
+ghost use mathlib.Core.Path.{_≡_};
+ghost use Prim.Native.Nat.{_<_};
+ghost use lib.ListN.{drop};
+ghost use lib.Dec.{eqb};
+ghost use Rattle.model.specs.Lists.{any};
+ghost use Rattle.model.specs.Tables.{at};
+ghost use Rattle.model.specs.Store.{rowsIn};
+ghost use Rattle.tables.specs.Columns.{columnOf};
+ghost use Rattle.statistics.specs.Searching.{Searchable, ObjectsSorted};
+ghost use Rattle.statistics.specs.Ranges.{hasValue};
+ghost use Rattle.probes.specs.Marks.{Marked};
+use crate::marks::is_marked;
+use searching::search::has_word;
+
+// Whether some of the n rows at `start` has a value at a column: by search in the rows where it is the subject, else in their objects'
+// sorted copy, which has a word for each row behind `first`. A value that is not marked is not searched.
+pub fn has_partner(
+    w: &[u32],
+    objects: &[u32],
+    first: usize,
+    marks: &[u8],
+    start: usize,
+    n: usize,
+    column: usize,
+    value: u32,
+) -> bool
+    requires { ⌜ Searchable (now w) (now objects) first start n × (column < 2) × (column ≡ 1 → ObjectsSorted (now w) (now objects) first start n) ⌝ }
+    requires { ⌜ Marked (hasValue (now w) start n column) (now marks) ⌝ }
+    ensures { λ r. ⌜ r ≡ any (λ s. eqb value (at (columnOf column) s)) (rowsIn n (drop start (now (w .entry)))) ⌝ }
+{
+    if !is_marked(marks, value) {
+        return false;
+    }
+    if column == 0 {
+        return has_word(w, start, 2, n, value);
+    }
+    has_word(objects, (start - first) / 2, 1, n, value)
+}

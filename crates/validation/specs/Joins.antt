@@ -1,0 +1,38 @@
+-- The entries and the stored rows of semi-joins, as words hold them.
+use Prim.Native.Nat.{ℕ, _+_, _*_, _-_}
+use mathlib.Core.Bool.{Bool, cond, _&&_}
+use mathlib.Core.List.{List}
+use lib.ListN.{length, getD, take, drop}
+use lib.Dec.{eqb, leb}
+use Rattle.model.specs.Lists.{all, sameWords}
+use Rattle.model.specs.Site.{Row}
+use Rattle.model.specs.Tables.{kindCount}
+use Rattle.model.specs.Store.{Reduced, semiJoins, isStoredTable, storedRows, tableWords, semiJoinEntries, storedStart, storedWords, vpEntryAt}
+use Rattle.tables.specs.SiteWords.{siteIn}
+use Rattle.statistics.specs.Ranges.{apart}
+
+-- rows that are stored at `here`, where `start` says, `left` of them, which end at `used` or before
+unfoldable pub storedHolds : List ℕ → List Row → ℕ → ℕ → ℕ → ℕ → Bool
+storedHolds words rows start left here used = eqb start here && (leb (here + 2 * left) used && sameWords (take (2 * left) (drop here words)) (tableWords rows))
+
+-- the entry at a place, and the rows at `here` if they are stored, which end at `used` or before
+unfoldable pub joinHolds : ℕ → List ℕ → Reduced → ℕ → ℕ → ℕ → Bool
+joinHolds t words x entry here used =
+    (eqb (getD words entry 0) (length (x .rows)) && eqb (getD words (entry + 1) 0) (cond (isStoredTable t x) here 0))
+    && (leb (here + 2 * length (storedRows t x)) used && sameWords (take (2 * length (storedRows t x)) (drop here words)) (tableWords (storedRows t x)))
+
+-- all entries, and all stored rows up to `used`
+unfoldable pub joinsHold : ℕ → ℕ → List ℕ → ℕ → Bool
+joinsHold t count words used =
+    let site = siteIn count words in
+    sameWords (take (2 * (count * (count * kindCount))) (drop (vpEntryAt count) words)) (semiJoinEntries t (storedStart site) (semiJoins site))
+    && sameWords (take (used - storedStart site) (drop (storedStart site) words)) (storedWords t (semiJoins site))
+
+-- at the first kind: the columns that the three kinds of p against q compare are apart, and the six words of their entries are 0
+unfoldable pub emptyPair : ℕ → List ℕ → List ℕ → ℕ → ℕ → ℕ → Bool
+emptyPair count words ranges p q k =
+    eqb k 0
+    && (apart ranges (6 * p) (6 * q)
+    && (apart ranges (6 * p + 3) (6 * q)
+    && (apart ranges (6 * p) (6 * q + 3)
+    && all (eqb 0) (take (2 * kindCount) (drop (vpEntryAt count + 2 * ((p * count + q) * kindCount)) words)))))
