@@ -7,7 +7,7 @@ ghost use Rattle.model.specs.Tables.{semiJoin};
 ghost use Rattle.model.specs.Store.{rowsIn, tableWords};
 ghost use Rattle.tables.specs.Columns.{kindOfColumns};
 ghost use Rattle.searching.specs.Search.{Ascending, hasWord};
-ghost use Rattle.statistics.specs.Searching.{Searchable, ObjectsSorted};
+ghost use Rattle.statistics.specs.IndexedTables.{Searchable, ObjectsSorted};
 ghost use Rattle.statistics.specs.Ranges.{hasValue};
 ghost use Rattle.probes.specs.Marks.{Marked};
 ghost use Rattle.probes.specs.StoredRows.{standsNext};

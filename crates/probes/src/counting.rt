@@ -6,7 +6,7 @@ ghost use Rattle.model.specs.Tables.{semiJoin};
 ghost use Rattle.model.specs.Store.{rowsIn};
 ghost use Rattle.tables.specs.Columns.{kindOfColumns};
 ghost use Rattle.searching.specs.Search.{Ascending, hasWord};
-ghost use Rattle.statistics.specs.Searching.{passing, Searchable, ObjectsSorted};
+ghost use Rattle.statistics.specs.IndexedTables.{passing, Searchable, ObjectsSorted};
 ghost use Rattle.statistics.specs.Ranges.{hasValue, ColumnRange};
 ghost use Rattle.probes.specs.Marks.{Marked};
 use crate::marks::mark_values;

@@ -6,7 +6,7 @@ ghost use Rattle.model.specs.Lists.{any};
 ghost use Rattle.model.specs.Tables.{at};
 ghost use Rattle.model.specs.Store.{rowsIn};
 ghost use Rattle.tables.specs.Columns.{columnOf};
-ghost use Rattle.statistics.specs.Searching.{Searchable, ObjectsSorted};
+ghost use Rattle.statistics.specs.IndexedTables.{Searchable, ObjectsSorted};
 ghost use Rattle.statistics.specs.Ranges.{hasValue};
 ghost use Rattle.probes.specs.Marks.{Marked};
 use crate::marks::is_marked;

@@ -4,7 +4,7 @@ ghost use lib.ListN.{length};
 ghost use Rattle.searching.specs.Search.{wordAt, Ascending, hasWord};
 ghost use Rattle.probes.specs.Marks.{Marked};
 use crate::marks::is_marked;
-use searching::search::skip_below;
+use searching::search::lower_bound_from;
 
 // The place that a walk has come to, and whether the value is there.
 pub struct Met {
@@ -34,7 +34,7 @@ pub fn walk_to(
             found: false,
         };
     }
-    let place = skip_below(words, base, stride, n, from, value);
+    let place = lower_bound_from(words, base, stride, n, from, value);
     if place == n {
         return Met {
             place,

@@ -5,18 +5,18 @@ use native.Mathlib.Omega.{arith}
 use mathlib.Core.Path.{_≡_, refl, sym, ap}
 use mathlib.Core.Bool.{Bool, true, false}
 use mathlib.Core.List.{List}
-use lib.ListN.{getD}
+use lib.ListN.{length, getD}
 use lib.Dec.{eqb}
 use borrow.Author.Tests.{eqb-true, eqb-false, eq-eqb}
 use Rattle.model.specs.Lists.{below}
 use Rattle.model.proofs.Booleans.{to-false}
 use Rattle.model.proofs.Below.{into-below, from-below}
 use Rattle.model.proofs.Membership.{into-any, from-any}
-use Rattle.searching.specs.Search.{wordAt, Ascending, Splits, hasWord}
+use Rattle.searching.specs.Search.{wordAt, Ascending, SortedRun, IsLowerBound, hasWord}
 
--- each of the words stands before the end
-pub word-inside : {n i size : ℕ} (base stride : ℕ) → 0 < stride → i < n → base + stride * n ≤ size → base + stride * i < size
-word-inside {i = i} base stride h l fit = omega (arith, mul-le-mul-left {m = suc i} stride l)
+-- each word of a run stands in the list
+pub word-inside : {words : List ℕ} {base stride n i : ℕ} → SortedRun words base stride n → i < n → base + stride * i < length words
+word-inside {stride = stride} {i = i} run h = omega (arith, run .spaced, run .inside, mul-le-mul-left {m = suc i} stride h)
 
 module _ (words : List ℕ) (base stride : ℕ) {n value : ℕ} where
   -- one word that has the value is enough
@@ -44,7 +44,7 @@ module _ (words : List ℕ) (base stride : ℕ) {n value : ℕ} where
     behind-last l = no-word (λ i h e. omega (arith, ascending i (n - 1) (omega arith) (omega arith)))
 
     -- where the words that are not below the value begin, it stands, or nowhere
-    pub word-there : {place : ℕ} → Splits words base stride n value place → place < n
+    pub word-there : {place : ℕ} → IsLowerBound words base stride n value place → place < n
         → eqb (wordAt words base stride place) value ≡ hasWord words base stride n value
     word-there {place} s h = go (eqb (wordAt words base stride place) value) refl
       where
@@ -55,17 +55,17 @@ module _ (words : List ℕ) (base stride : ℕ) {n value : ℕ} where
             let later : place ≤ i = le-of-suc-le-suc (lt-of-not-le (λ earlier. let less = s .lower i earlier in omega arith)) in
             eqb-false _ value e (omega (arith, ascending place i later l, s .others place (omega arith) h)))
 
-  -- a word that is not below the value splits them, where the word before it is below
-  pub splits-after : {place : ℕ} → Ascending words base stride n → place < n
+  -- a word that is not below the value is the bound, where the word before it is below
+  pub lower-bound-at : {place : ℕ} → Ascending words base stride n → place < n
       → (0 < place → wordAt words base stride (place - 1) < value) → value ≤ wordAt words base stride place
-      → Splits words base stride n value place
-  splits-after {place} ascending h before there = record {
+      → IsLowerBound words base stride n value place
+  lower-bound-at {place} ascending h before there = record {
     within = omega arith;
     lower = λ i l. omega (arith, before (omega arith), ascending i (place - 1) (omega arith) (omega arith));
     others = λ i l m. omega (arith, ascending place i l m);
   }
 
 -- where the last word is not below the value, not all of them are
-pub splits-inside : {words : List ℕ} {base stride n value place : ℕ} → Splits words base stride n value place → 0 < n
+pub lower-bound-inside : {words : List ℕ} {base stride n value place : ℕ} → IsLowerBound words base stride n value place → 0 < n
     → value ≤ wordAt words base stride (n - 1) → place < n
-splits-inside {n = n} s some l = lt-of-not-le (λ all. let last = s .lower (n - 1) (omega arith) in omega arith)
+lower-bound-inside {n = n} s some l = lt-of-not-le (λ all. let last = s .lower (n - 1) (omega arith) in omega arith)

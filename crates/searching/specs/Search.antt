@@ -2,7 +2,7 @@
 use Prim.Native.Nat.{ℕ, _+_, _*_, _≤_, _<_}
 use mathlib.Core.Bool.{Bool}
 use mathlib.Core.List.{List}
-use lib.ListN.{getD}
+use lib.ListN.{length, getD}
 use lib.Dec.{eqb}
 use Rattle.model.specs.Lists.{any, below}
 
@@ -15,8 +15,19 @@ module _ (words : List ℕ) (base stride : ℕ) where
   abbrev pub Ascending : ℕ → Type 0
   Ascending n = (i j : ℕ) → i ≤ j → j < n → wordAt i ≤ wordAt j
 
-  -- the first r of n are below a value, and the others are not
-  pub record Splits (n value r : ℕ) : Type 0 where
+  -- n of them stand in the list, and ascend
+  pub record SortedRun (n : ℕ) : Type 0 where
+    pub spaced : 0 < stride
+    pub inside : base + stride * n ≤ length words
+    pub ascending : Ascending n
+
+  -- the first r of n are below a value
+  pub record FirstBelow (n value r : ℕ) : Type 0 where
+    pub within : r ≤ n
+    pub lower : (i : ℕ) → i < r → wordAt i < value
+
+  -- they are, and the others are not
+  pub record IsLowerBound (n value r : ℕ) : Type 0 where
     pub within : r ≤ n
     pub lower : (i : ℕ) → i < r → wordAt i < value
     pub others : (i : ℕ) → r ≤ i → i < n → value ≤ wordAt i

@@ -1,12 +1,11 @@
 ghost use mathlib.Core.Path.{_≡_};
-ghost use Prim.Native.Nat.{ℕ, _<_, _≤_, _+_, _*_};
-ghost use lib.ListN.{length};
-ghost use Rattle.searching.specs.Search.{wordAt, Ascending, Splits, hasWord};
+ghost use Prim.Native.Nat.{_<_};
+ghost use Rattle.searching.specs.Search.{SortedRun, FirstBelow, IsLowerBound, hasWord};
 
 // How many of n ascending words, `stride` apart from `base` on, are below a value.
-pub fn words_below(words: &[u32], base: usize, stride: usize, n: usize, value: u32) -> usize
-    requires { ⌜ (0 < stride) × (base + stride * n ≤ length (now words)) × Ascending (now words) base stride n ⌝ }
-    ensures { λ r. ⌜ Splits (now (words .entry)) base stride n value r ⌝ }
+pub fn lower_bound(words: &[u32], base: usize, stride: usize, n: usize, value: u32) -> usize
+    requires { ⌜ SortedRun (now words) base stride n ⌝ }
+    ensures { λ r. ⌜ IsLowerBound (now (words .entry)) base stride n value r ⌝ }
 {
     let mut low: usize = 0;
     let mut high = n;
@@ -22,9 +21,9 @@ pub fn words_below(words: &[u32], base: usize, stride: usize, n: usize, value: u
 }
 
 // The same. Terms are often numbered in a row: the place is tried first that the value has then.
-pub fn first_not_below(words: &[u32], base: usize, stride: usize, n: usize, value: u32) -> usize
-    requires { ⌜ (0 < stride) × (base + stride * n ≤ length (now words)) × Ascending (now words) base stride n ⌝ }
-    ensures { λ r. ⌜ Splits (now (words .entry)) base stride n value r ⌝ }
+pub fn guessed_lower_bound(words: &[u32], base: usize, stride: usize, n: usize, value: u32) -> usize
+    requires { ⌜ SortedRun (now words) base stride n ⌝ }
+    ensures { λ r. ⌜ IsLowerBound (now (words .entry)) base stride n value r ⌝ }
 {
     if n == 0 {
         return 0;
@@ -41,11 +40,11 @@ pub fn first_not_below(words: &[u32], base: usize, stride: usize, n: usize, valu
     {
         return guess;
     }
-    words_below(words, base, stride, n, value)
+    lower_bound(words, base, stride, n, value)
 }
 
 // The same, by a walk from a place before which all words are below: for values that ascend, each walk goes on where the last one ended.
-pub fn skip_below(
+pub fn lower_bound_from(
     words: &[u32],
     base: usize,
     stride: usize,
@@ -53,8 +52,8 @@ pub fn skip_below(
     from: usize,
     value: u32,
 ) -> usize
-    requires { ⌜ (0 < stride) × (base + stride * n ≤ length (now words)) × Ascending (now words) base stride n × (from ≤ n) × ((i : ℕ) → i < from → wordAt (now words) base stride i < value) ⌝ }
-    ensures { λ r. ⌜ Splits (now (words .entry)) base stride n value r ⌝ }
+    requires { ⌜ SortedRun (now words) base stride n × FirstBelow (now words) base stride n value from ⌝ }
+    ensures { λ r. ⌜ IsLowerBound (now (words .entry)) base stride n value r ⌝ }
 {
     let mut place = from;
     while place < n {
@@ -68,19 +67,19 @@ pub fn skip_below(
 
 // Whether one of n ascending words has a value, by search.
 fn search_word(words: &[u32], base: usize, stride: usize, n: usize, value: u32) -> bool
-    requires { ⌜ (0 < stride) × (base + stride * n ≤ length (now words)) × Ascending (now words) base stride n × (0 < n) ⌝ }
+    requires { ⌜ SortedRun (now words) base stride n × (0 < n) ⌝ }
     ensures { λ r. ⌜ r ≡ hasWord (now (words .entry)) base stride n value ⌝ }
 {
     if words[base + stride * (n - 1)] < value {
         return false;
     }
-    let place = words_below(words, base, stride, n, value);
+    let place = lower_bound(words, base, stride, n, value);
     words[base + stride * place] == value
 }
 
 // The same. Terms are often numbered in a row: the place is tried first that the value has then.
 pub fn has_word(words: &[u32], base: usize, stride: usize, n: usize, value: u32) -> bool
-    requires { ⌜ (0 < stride) × (base + stride * n ≤ length (now words)) × Ascending (now words) base stride n ⌝ }
+    requires { ⌜ SortedRun (now words) base stride n ⌝ }
     ensures { λ r. ⌜ r ≡ hasWord (now (words .entry)) base stride n value ⌝ }
 {
     if n == 0 {

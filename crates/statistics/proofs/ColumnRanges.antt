@@ -5,7 +5,7 @@ use native.Mathlib.Nat.{le-of-suc-le-suc, lt-of-not-le}
 use native.Mathlib.Numerals.{add-one}
 use mathlib.Core.Path.{_≡_, refl, sym, ap, _∙_}
 use mathlib.Core.Logic.{_⊎_, inl, inr, ⊎-elim}
-use mathlib.Core.Bool.{Bool, true, false, false≢true, _||_, or-comm, or-false, not}
+use mathlib.Core.Bool.{Bool, true, false, false≢true, _&&_, _||_, or-comm, or-false, not}
 use mathlib.Core.List.{List}
 use lib.ListN.{length, getD, set, length-append, length-set}
 use lib.Seq.{getD-set-same, getD-set-other}
@@ -15,14 +15,17 @@ use borrow.Author.Tests.{ltb-true, ltb-false, leb-true, le-leb, eqb-true, eqb-fa
 use Rattle.model.specs.Store.{vpEntryAt}
 use Rattle.model.specs.Lists.{below}
 use Rattle.model.specs.Tables.{semiJoin}
-use Rattle.model.proofs.Booleans.{not-both, to-false, or-cases, or-left, or-right}
+use Rattle.model.proofs.Booleans.{not-both, to-false, and-make, or-cases, or-left, or-right}
 use Rattle.model.proofs.Membership.{from-all, into-all, any-append, into-any}
 use Rattle.model.proofs.Below.{from-below, into-below}
 use Rattle.searching.specs.Search.{wordAt, Ascending, hasWord}
 use Rattle.searching.proofs.WordSearch.{word-found, before-first, behind-last}
 use Rattle.model.proofs.Rows.{rows-at}
+use Rattle.tables.specs.declared.layout.TableEntry.{TableEntry}
+use Rattle.tables.specs.Entries.{TableEntryAt}
 use Rattle.tables.proofs.Partners.{hasPartner, partner-found, at-column, leftOf, row-left, row-not-left}
-use Rattle.statistics.specs.Ranges.{isGapless, RangeOf, hasValue, ColumnRange, AllMeasured, apart, isReached}
+use Rattle.statistics.specs.Compared.{areCompared}
+use Rattle.statistics.specs.Ranges.{isGapless, RangeOf, rangeAt, hasValue, ColumnRange, AllMeasured, apart, isReached, objectsReached}
 use Rattle.statistics.proofs.Partnered.{partner-of-value}
 
 -- ---- words without gaps
@@ -201,9 +204,16 @@ module _ (words ranges : List ℕ) (a b p m own q n other : ℕ) (own-column : o
 pub apart-turned : (ranges : List ℕ) (a b : ℕ) → apart ranges a b ≡ apart ranges b a
 apart-turned ranges a b = or-comm (ltb (getD ranges (a + 1) 0) (getD ranges b 0)) (ltb (getD ranges (b + 1) 0) (getD ranges a 0))
 
--- one table's subjects are enough
-pub reached-by : (ranges : List ℕ) (k column p : ℕ) → p < k → apart ranges (6 * p) column ≡ false → isReached ranges k column ≡ true
-reached-by ranges k column p h e = into-any _ (into-below k h) (ap not e)
+-- one column that is compared with them is enough for objects to be reached
+pub reached-by : (ranges : List ℕ) (k i p column : ℕ) → p < k → column < 2 → areCompared column 1 ≡ true → apart ranges (rangeAt p column) (rangeAt i 1) ≡ false
+    → objectsReached ranges k i ≡ true
+unfolding objectsReached isReached
+reached-by ranges k i p column h l compared e = go column l compared (into-any (λ q. not (apart ranges (rangeAt q column) (rangeAt i 1))) (into-below k h) (ap not e))
+  where
+    go : (column : ℕ) → column < 2 → areCompared column 1 ≡ true → isReached ranges k column (rangeAt i 1) ≡ true → objectsReached ranges k i ≡ true
+    go zero l compared met = or-left (areCompared 1 1 && isReached ranges k 1 (rangeAt i 1)) (and-make compared met)
+    go (suc zero) l compared met = or-right (areCompared 0 1 && isReached ranges k 0 (rangeAt i 1)) (and-make compared met)
+    go (suc (suc c)) l compared met = absurd (omega arith)
 
 -- ---- where the ranges stand
 
@@ -243,78 +253,80 @@ module _ (lowest highest whole : ℕ) (ranges : List ℕ) (place : ℕ) (room : 
       let apart : (k : ℕ) → k < 3 → (other + k < place) ⊎ (place + 3 ≤ other + k) = λ k h. ⊎-elim (λ l. inl (omega arith)) (λ l. inr (omega arith)) o in
       rw (put-other other (⊎-elim (λ l. inl (omega arith)) (λ l. inr (omega arith)) o), put-other (other + 1) (apart 1 (omega arith)), put-other (other + 2) (apart 2 (omega arith))) r
 
--- the ranges of table i, behind those of the tables before it
-pub table-measured : (words ranges : List ℕ) (i : ℕ) {low high whole low' high' whole' : ℕ} → 6 * i + 6 ≤ length ranges → AllMeasured words ranges i →
-    let start = getD words (vpEntryAt i + 2) 0 in
-    let n = getD words (vpEntryAt i + 1) 0 in
-    RangeOf (hasValue words start n 0) low high whole → RangeOf (hasValue words start n 1) low' high' whole'
-    → AllMeasured words (putRange (putRange ranges (6 * i) low high whole) (6 * i + 3) low' high' whole') (i + 1)
-table-measured words ranges i {low} {high} {whole} {low'} {high'} {whole'} room before subjects objects =
-    below-more (λ j. (column : ℕ) → column < 2 → ColumnRange words (getD words (vpEntryAt j + 2) 0) (getD words (vpEntryAt j + 1) 0) column now (6 * j + 3 * column)) i earlier own
+-- the ranges of table i, as its entry has it, behind those of the tables before it
+pub table-measured : (words ranges : List ℕ) (i : ℕ) {low high whole low' high' whole' : ℕ} (r : TableEntry) → TableEntryAt words i r
+    → rangeAt (i + 1) 0 ≤ length ranges → AllMeasured words ranges i
+    → RangeOf (hasValue words (r .start) (r .rows) 0) low high whole → RangeOf (hasValue words (r .start) (r .rows) 1) low' high' whole'
+    → AllMeasured words (putRange (putRange ranges (rangeAt i 0) low high whole) (rangeAt i 1) low' high' whole') (i + 1)
+table-measured words ranges i {low} {high} {whole} {low'} {high'} {whole'} r entry room before subjects objects =
+    below-more (λ j. (column : ℕ) → column < 2 → ColumnRange words (getD words (vpEntryAt j + 2) 0) (getD words (vpEntryAt j + 1) 0) column now (rangeAt j column)) i earlier own
   where
     half : List ℕ
-    half = putRange ranges (6 * i) low high whole
+    half = putRange ranges (rangeAt i 0) low high whole
 
     now : List ℕ
-    now = putRange half (6 * i + 3) low' high' whole'
+    now = putRange half (rangeAt i 1) low' high' whole'
 
-    fits : 6 * i + 3 ≤ length ranges
+    fits : rangeAt i 0 + 3 ≤ length ranges
     fits = omega arith
 
-    fits-too : 6 * i + 3 + 3 ≤ length half
-    fits-too = omega (arith, put-length low high whole ranges (6 * i) fits)
+    fits-too : rangeAt i 1 + 3 ≤ length half
+    fits-too = omega (arith, put-length low high whole ranges (rangeAt i 0) fits)
 
     earlier : (j : ℕ) → j < i → (column : ℕ) → column < 2
-        → ColumnRange words (getD words (vpEntryAt j + 2) 0) (getD words (vpEntryAt j + 1) 0) column now (6 * j + 3 * column)
+        → ColumnRange words (getD words (vpEntryAt j + 2) 0) (getD words (vpEntryAt j + 1) 0) column now (rangeAt j column)
     earlier j h column l =
-        range-kept low' high' whole' half (6 * i + 3) fits-too (6 * j + 3 * column) (inl (omega arith))
-        (range-kept low high whole ranges (6 * i) fits (6 * j + 3 * column) (inl (omega arith)) (before j h column l))
+        range-kept low' high' whole' half (rangeAt i 1) fits-too (rangeAt j column) (inl (omega arith))
+        (range-kept low high whole ranges (rangeAt i 0) fits (rangeAt j column) (inl (omega arith)) (before j h column l))
 
-    own : (column : ℕ) → column < 2 → ColumnRange words (getD words (vpEntryAt i + 2) 0) (getD words (vpEntryAt i + 1) 0) column now (6 * i + 3 * column)
+    own : (column : ℕ) → column < 2 → ColumnRange words (getD words (vpEntryAt i + 2) 0) (getD words (vpEntryAt i + 1) 0) column now (rangeAt i column)
     own zero l =
-        let here : 6 * i + 3 * 0 ≡ 6 * i = omega arith in
-        rw here (range-kept low' high' whole' half (6 * i + 3) fits-too (6 * i) (inl (omega arith)) (range-put low high whole ranges (6 * i) fits subjects))
-    own (suc zero) l = range-put low' high' whole' half (6 * i + 3) fits-too objects
+        range-kept low' high' whole' half (rangeAt i 1) fits-too (rangeAt i 0) (inl (omega arith)) (range-put low high whole ranges (rangeAt i 0) fits (rw (entry .start, entry .rows) at subjects))
+    own (suc zero) l = range-put low' high' whole' half (rangeAt i 1) fits-too (rw (entry .start, entry .rows) at objects)
     own (suc (suc column)) l = absurd (omega arith)
 
 -- ---- the third number of a table's objects is written again
 
 module _ (ranges : List ℕ) (i whole : ℕ) where
-  again-other : (k : ℕ) → (k ≡ 6 * i + 5 → ⊥) → getD (set ranges (6 * i + 5) whole) k 0 ≡ getD ranges k 0
-  again-other k h = getD-set-other ranges (6 * i + 5) k whole 0 (λ e. h (omega arith))
+  -- the ranges then
+  abbrev again : List ℕ
+  again = set ranges (rangeAt i 1 + 2) whole
+
+  again-other : (k : ℕ) → (k ≡ rangeAt i 1 + 2 → ⊥) → getD again k 0 ≡ getD ranges k 0
+  again-other k h = getD-set-other ranges (rangeAt i 1 + 2) k whole 0 (λ e. h (omega arith))
 
   -- what is apart is so by the first two
-  pub apart-again : (p j : ℕ) → apart (set ranges (6 * i + 5) whole) (6 * p) (6 * j + 3) ≡ apart ranges (6 * p) (6 * j + 3)
-  apart-again p j =
+  pub apart-again : (p column j : ℕ) → apart again (rangeAt p column) (rangeAt j 1) ≡ apart ranges (rangeAt p column) (rangeAt j 1)
+  apart-again p column j =
       rw (
-        again-other (6 * p + 1) (λ e. omega arith),
-        again-other (6 * j + 3) (λ e. omega arith),
-        again-other (6 * j + 3 + 1) (λ e. omega arith),
-        again-other (6 * p) (λ e. omega arith),
+        again-other (rangeAt p column + 1) (λ e. omega arith),
+        again-other (rangeAt j 1) (λ e. omega arith),
+        again-other (rangeAt j 1 + 1) (λ e. omega arith),
+        again-other (rangeAt p column) (λ e. omega arith),
       ) refl
 
-  pub measured-again : (words : List ℕ) (count : ℕ) → 6 * i + 6 ≤ length ranges → AllMeasured words ranges count
-      → RangeOf (hasValue words (getD words (vpEntryAt i + 2) 0) (getD words (vpEntryAt i + 1) 0) 1) (getD ranges (6 * i + 3) 0) (getD ranges (6 * i + 3 + 1) 0) whole
-      → AllMeasured words (set ranges (6 * i + 5) whole) count
+  pub measured-again : (words : List ℕ) (count : ℕ) → rangeAt (i + 1) 0 ≤ length ranges → AllMeasured words ranges count
+      → RangeOf (hasValue words (getD words (vpEntryAt i + 2) 0) (getD words (vpEntryAt i + 1) 0) 1) (getD ranges (rangeAt i 1) 0) (getD ranges (rangeAt i 1 + 1) 0) whole
+      → AllMeasured words again count
   measured-again words count room measured own j h column l = go (eqb j i) refl column l
     where
-      here : getD (set ranges (6 * i + 5) whole) (6 * i + 3 + 2) 0 ≡ whole
-      here = ap (λ (k : ℕ). getD (set ranges (6 * i + 5) whole) k 0) (omega arith) ∙ getD-set-same ranges (6 * i + 5) whole 0 (omega arith)
+      here : getD again (rangeAt i 1 + 2) 0 ≡ whole
+      here = getD-set-same ranges (rangeAt i 1 + 2) whole 0 (omega arith)
 
-      kept : (column : ℕ) → column < 2 → (6 * j + 3 * column ≡ 6 * i + 3 → ⊥)
-          → ColumnRange words (getD words (vpEntryAt j + 2) 0) (getD words (vpEntryAt j + 1) 0) column (set ranges (6 * i + 5) whole) (6 * j + 3 * column)
+      kept : (column : ℕ) → column < 2 → (rangeAt j column ≡ rangeAt i 1 → ⊥)
+          → ColumnRange words (getD words (vpEntryAt j + 2) 0) (getD words (vpEntryAt j + 1) 0) column again (rangeAt j column)
       kept column l other =
           rw (
-            again-other (6 * j + 3 * column) (λ e. omega arith),
-            again-other (6 * j + 3 * column + 1) (λ e. omega arith),
-            again-other (6 * j + 3 * column + 2) (λ e. other (omega arith)),
+            again-other (rangeAt j column) (λ e. omega arith),
+            again-other (rangeAt j column + 1) (λ e. omega arith),
+            again-other (rangeAt j column + 2) (λ e. other (omega arith)),
           ) (measured j h column l)
 
       go : (b : Bool) → eqb j i ≡ b → (column : ℕ) → column < 2
-          → ColumnRange words (getD words (vpEntryAt j + 2) 0) (getD words (vpEntryAt j + 1) 0) column (set ranges (6 * i + 5) whole) (6 * j + 3 * column)
+          → ColumnRange words (getD words (vpEntryAt j + 2) 0) (getD words (vpEntryAt j + 1) 0) column again (rangeAt j column)
       go b e zero l = kept 0 l (λ d. omega arith)
       go false e (suc zero) l = kept 1 l (λ d. eqb-false j i e (omega arith))
       go true e (suc zero) l =
           let same : j ≡ i = eqb-true j i e in
-          rw (same, again-other (6 * i + 3) (λ d. omega arith), again-other (6 * i + 3 + 1) (λ d. omega arith), here) own
+          rw (same, again-other (rangeAt i 1) (λ d. omega arith), again-other (rangeAt i 1 + 1) (λ d. omega arith), here) own
       go b e (suc (suc c)) l = absurd (omega arith)

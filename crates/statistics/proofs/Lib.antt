@@ -3,3 +3,4 @@ pub mod Partnered
 pub mod ColumnRanges
 pub mod SortedObjects
 pub mod SearchableTables
+pub mod ComparedColumns

@@ -20,7 +20,7 @@ use Rattle.searching.specs.Search.{wordAt, hasWord}
 use Rattle.tables.specs.Columns.{columnOf, kindOfColumns}
 use Rattle.model.proofs.Rows.{rowAt, rows-at}
 use Rattle.tables.proofs.Partners.{hasPartner, at-column}
-use Rattle.statistics.specs.Searching.{passing, SameValues}
+use Rattle.statistics.specs.IndexedTables.{passing, SameValues}
 use Rattle.statistics.specs.Ranges.{hasValue}
 
 -- ---- lists

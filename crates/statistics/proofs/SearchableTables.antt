@@ -23,12 +23,15 @@ use Rattle.model.proofs.Below.{from-below, below-last, length-countUp, getD-cou
 use Rattle.model.proofs.Order.{rows}
 use Rattle.model.proofs.Sorting.{ascending-sorted}
 use Rattle.model.proofs.Partition.{proper}
-use Rattle.searching.specs.Search.{wordAt, Ascending}
+use Rattle.searching.specs.Search.{wordAt, Ascending, SortedRun}
+use Rattle.tables.specs.declared.layout.TableEntry.{TableEntry}
+use Rattle.tables.specs.Entries.{TableEntryAt}
 use Rattle.tables.specs.SiteWords.{siteIn, ImageOf}
 use Rattle.model.proofs.Rows.{rowAt, rows-at}
 use Rattle.tables.proofs.Images.{table-in}
-use Rattle.statistics.specs.Searching.{passing, SameValues, AllSearchable, ObjectsSorted, AllSorted, CopyOf}
-use Rattle.statistics.specs.Ranges.{apart}
+use Rattle.statistics.specs.IndexedTables.{passing, SameValues, AllSearchable, ObjectsSorted, AllSorted, CopyOf}
+use Rattle.statistics.specs.Compared.{areCompared}
+use Rattle.statistics.specs.Ranges.{rangeAt, apart}
 use Rattle.statistics.proofs.ColumnRanges.{apart-again}
 use Rattle.statistics.proofs.SortedObjects.{places-sorted}
 
@@ -156,7 +159,7 @@ module _ {count : ℕ} {w : List ℕ} (o : ImageOf count w) where
       let earlier : j < count = omega arith in
       omega (arith, start i h, start j earlier, table-in o j earlier .count, rows-earlier site j i l)
 
-  pub ascending : (i : ℕ) → i < count → Ascending w (startAt i) 2 (rowsAt i)
+  ascending : (i : ℕ) → i < count → Ascending w (startAt i) 2 (rowsAt i)
   ascending i h =
       let table = table-in o i h in
       let rs = tableAt site i .rows in
@@ -164,13 +167,19 @@ module _ {count : ℕ} {w : List ℕ} (o : ImageOf count w) where
       let order = and-cases (all (λ r. isTerm (r .0) && isTerm (r .1)) rs) (ascends rowBefore rs) good .1 in
       subjects-ascend w (startAt i) (rowsAt i) (table .inside) (ap (ascends rowBefore) (table .back) ∙ order)
 
+  subjects-run : (i : ℕ) → i < count → SortedRun w (startAt i) 2 (rowsAt i)
+  subjects-run i h = record { spaced = omega arith; inside = table-in o i h .inside; ascending = ascending i h }
+
+  -- as the entry has the table
+  pub entry-run : (i : ℕ) → i < count → (r : TableEntry) → TableEntryAt w i r → SortedRun w (r .start) 2 (r .rows)
+  entry-run i h r entry = rw (entry .start, entry .rows) (subjects-run i h)
+
   -- each can be searched by its subjects
   pub all-searchable : (objects : List ℕ) → rowTotal site ≤ length objects → AllSearchable count w objects count
   all-searchable objects room i h = record {
     behind = behind-first i h;
-    inside = table-in o i h .inside;
+    subjects = subjects-run i h;
     copied = omega (arith, part-fits i h);
-    subjects-ascend = ascending i h;
   }
 
   -- the sorted objects of table i are put into its part
@@ -200,12 +209,12 @@ module _ {count : ℕ} {w : List ℕ} (o : ImageOf count w) where
         }
 
     -- if they are reached; with them the third number of their range is written
-    pub one-more-sorted : (ranges : List ℕ) (whole : ℕ) → AllSorted count w objects ranges i
-        → ((p : ℕ) → p < count → apart ranges (6 * p) (6 * i + 3) ≡ false → CopyOf w (startAt i) (rowsAt i) copy)
-        → AllSorted count w (putBack objects (partAt i) copy rest) (set ranges (6 * i + 5) whole) (i + 1)
-    one-more-sorted ranges whole s c =
+    pub sorted-more : (ranges : List ℕ) (whole : ℕ) → AllSorted count w objects ranges i
+        → ((p : ℕ) → p < count → (column : ℕ) → column < 2 → areCompared column 1 ≡ true → apart ranges (rangeAt p column) (rangeAt i 1) ≡ false → CopyOf w (startAt i) (rowsAt i) copy)
+        → AllSorted count w (putBack objects (partAt i) copy rest) (set ranges (rangeAt i 1 + 2) whole) (i + 1)
+    sorted-more ranges whole s c =
         below-more
-        (λ j. (p : ℕ) → p < count → apart (set ranges (6 * i + 5) whole) (6 * p) (6 * j + 3) ≡ false
+        (λ j. (p : ℕ) → p < count → (column : ℕ) → column < 2 → areCompared column 1 ≡ true → apart (set ranges (rangeAt i 1 + 2) whole) (rangeAt p column) (rangeAt j 1) ≡ false
         → ObjectsSorted w (putBack objects (partAt i) copy rest) (rowsStart count) (startAt j) (rowsAt j)) i
-        (λ j l p m e. earlier-kept j l (s j l p m (sym (apart-again ranges i whole p j) ∙ e)))
-        (λ p m e. one-put (c p m (sym (apart-again ranges i whole p i) ∙ e)))
+        (λ j l p m column n compared e. earlier-kept j l (s j l p m column n compared (sym (apart-again ranges i whole p column j) ∙ e)))
+        (λ p m column n compared e. one-put (c p m column n compared (sym (apart-again ranges i whole p column i) ∙ e)))

@@ -22,7 +22,7 @@ use Rattle.model.proofs.Sorting.{Sorted, count-sort, sorted-sort}
 use Rattle.rows.specs.Rows.{rowIn, rowsOf, sortedFront}
 use Rattle.searching.specs.Search.{wordAt, Ascending}
 use Rattle.model.proofs.Rows.{rows-at}
-use Rattle.statistics.specs.Searching.{passing, CopyOf}
+use Rattle.statistics.specs.IndexedTables.{passing, CopyOf}
 
 -- ---- lists
 

@@ -1,3 +1,4 @@
 -- What the functions of this crate are held to, in terms of the definitions.
-pub mod Searching
+pub mod Compared
 pub mod Ranges
+pub mod IndexedTables

@@ -1,7 +1,7 @@
 -- The range of a column's values, by which rows have no partners or all have, without a search.
 use Prim.Native.Nat.{ℕ, _+_, _-_, _*_, _≤_, _<_}
 use mathlib.Core.Path.{_≡_}
-use mathlib.Core.Bool.{Bool, true, _||_, not}
+use mathlib.Core.Bool.{Bool, true, _&&_, _||_, not}
 use mathlib.Core.List.{List}
 use lib.ListN.{getD, drop}
 use lib.Dec.{eqb, ltb, leb}
@@ -10,6 +10,7 @@ use Rattle.model.specs.Tables.{at}
 use Rattle.model.specs.Store.{rowsIn, vpEntryAt}
 use Rattle.tables.specs.Columns.{columnOf}
 use Rattle.searching.specs.Search.{wordAt}
+use Rattle.statistics.specs.Compared.{areCompared}
 
 -- each of n words is at most one above the word before it
 unfoldable pub isGapless : List ℕ → ℕ → ℕ → ℕ → Bool
@@ -25,6 +26,10 @@ pub record RangeOf (passes : ℕ → Bool) (lowest highest whole : ℕ) : Type 0
 abbrev pub hasValue : List ℕ → ℕ → ℕ → ℕ → ℕ → Bool
 hasValue words start n column x = any (λ r. eqb x (at (columnOf column) r)) (rowsIn n (drop start words))
 
+-- where the range of a column of the table at place p stands: three numbers for its subjects, then three for its objects
+abbrev pub rangeAt : ℕ → ℕ → ℕ
+rangeAt p column = 6 * p + 3 * column
+
 -- the range of a column stands at a place of some numbers
 abbrev pub ColumnRange : List ℕ → ℕ → ℕ → ℕ → List ℕ → ℕ → Type 0
 ColumnRange words start n column ranges place =
@@ -34,12 +39,17 @@ ColumnRange words start n column ranges place =
 abbrev pub AllMeasured : List ℕ → List ℕ → ℕ → Type 0
 AllMeasured words ranges k =
     (i : ℕ) → i < k → (column : ℕ) → column < 2
-    → ColumnRange words (getD words (vpEntryAt i + 2) 0) (getD words (vpEntryAt i + 1) 0) column ranges (6 * i + 3 * column)
+    → ColumnRange words (getD words (vpEntryAt i + 2) 0) (getD words (vpEntryAt i + 1) 0) column ranges (rangeAt i column)
 
 -- no value is in both of the ranges at two places
 abbrev pub apart : List ℕ → ℕ → ℕ → Bool
 apart ranges a b = ltb (getD ranges (a + 1) 0) (getD ranges b 0) || ltb (getD ranges (b + 1) 0) (getD ranges a 0)
 
--- the subjects of some of the first k tables are not apart from a column
-abbrev pub isReached : List ℕ → ℕ → ℕ → Bool
-isReached ranges k column = any (λ p. not (apart ranges (6 * p) column)) (below k)
+-- a column of some of the first k tables is not apart from the range at a place
+unfoldable pub isReached : List ℕ → ℕ → ℕ → ℕ → Bool
+isReached ranges k column place = any (λ p. not (apart ranges (rangeAt p column) place)) (below k)
+
+-- a column that is compared with objects is not apart from the objects of table i
+unfoldable pub objectsReached : List ℕ → ℕ → ℕ → Bool
+objectsReached ranges k i =
+    (areCompared 0 1 && isReached ranges k 0 (rangeAt i 1)) || (areCompared 1 1 && isReached ranges k 1 (rangeAt i 1))

@@ -4,12 +4,15 @@ ghost use mathlib.Core.Bool.{true};
 ghost use lib.ListN.{length, drop};
 ghost use Rattle.model.specs.Site.{rowTotal};
 ghost use Rattle.tables.specs.SiteWords.{siteIn, ImageOf};
-ghost use Rattle.statistics.specs.Searching.{CopyOf, AllSearchable, AllSorted};
+ghost use Rattle.statistics.specs.IndexedTables.{CopyOf, IndexedTables};
 ghost use Rattle.statistics.specs.Ranges.{isGapless, AllMeasured};
+use crate::compared::are_compared;
 use crate::ranges::is_gapless;
-use crate::ranges::is_reached;
+use crate::ranges::objects_reached;
+use crate::ranges::range_at;
 use rows::sorting::sort_rows;
 use tables::layout::rows_start;
+use tables::layout::table_entry;
 
 // Puts the objects of the n rows at `start` into the first n words, in ascending order.
 fn copy_sorted(w: &[u32], start: usize, n: usize, copy: &mut [u32])
@@ -38,19 +41,22 @@ fn copy_reached(w: &[u32], start: usize, n: usize, reached: bool, copy: &mut [u3
     0
 }
 
-// The objects of each table that some table's subjects reach, in ascending order: a word for each row, in the order of the tables. With
+// The objects of each table that columns compared with them reach, in ascending order: a word for each row, in the order of the tables. With
 // them it is told of their range whether numbers are missing.
 pub fn copy_objects(w: &[u32], count: usize, ranges: &mut [u32; 96], objects: &mut [u32])
     requires { ⌜ ImageOf count (now w) × (rowTotal (siteIn count (now w)) ≤ length (now objects)) × AllMeasured (now w) (now ranges) count × (length (now ranges) ≡ 96) ⌝ }
-    ensures { λ _. ⌜ AllSearchable count (now (w .entry)) (now (objects .exit)) count × AllSorted count (now (w .entry)) (now (objects .exit)) (now (ranges .exit)) count × AllMeasured (now (w .entry)) (now (ranges .exit)) count ⌝ }
+    ensures { λ _. ⌜ IndexedTables count (now (w .entry)) (now (objects .exit)) (now (ranges .exit)) ⌝ }
 {
     let first = rows_start(count);
+    let by_subjects = are_compared(0, 1);
+    let by_objects = are_compared(1, 1);
     for i in 0..count {
-        let n = w[3 + 3 * i + 1] as usize;
-        let start = w[3 + 3 * i + 2] as usize;
+        let table = table_entry(w, i);
+        let n = table.rows;
+        let start = table.start;
         let to = (start - first) / 2;
-        let reached = is_reached(ranges, count, 6 * i + 3);
+        let reached = objects_reached(ranges, count, by_subjects, by_objects, i);
         let whole = copy_reached(w, start, n, reached, &mut objects[to..]);
-        ranges[6 * i + 5] = whole;
+        ranges[range_at(i, 1) + 2] = whole;
     }
 }

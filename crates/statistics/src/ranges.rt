@@ -3,8 +3,10 @@ ghost use Prim.Native.Nat.{_<_, _≤_, _+_, _*_};
 ghost use lib.ListN.{length, set};
 ghost use Rattle.model.specs.Site.{mostPredicates};
 ghost use Rattle.tables.specs.SiteWords.{ImageOf};
-ghost use Rattle.searching.specs.Search.{Ascending, hasWord};
-ghost use Rattle.statistics.specs.Ranges.{isGapless, RangeOf, hasValue, AllMeasured, apart, isReached};
+ghost use Rattle.searching.specs.Search.{SortedRun, hasWord};
+ghost use Rattle.statistics.specs.Compared.{areCompared};
+ghost use Rattle.statistics.specs.Ranges.{isGapless, RangeOf, rangeAt, hasValue, AllMeasured, apart, isReached, objectsReached};
+use tables::layout::table_entry;
 
 // The values of a column: the lowest, the highest, and 1 where each number between them is a value too.
 pub struct Range {
@@ -15,7 +17,7 @@ pub struct Range {
 
 // Whether each of n ascending words is at most one above the word before it, so that no number between the first and the last is missing.
 pub fn is_gapless(words: &[u32], base: usize, stride: usize, n: usize) -> bool
-    requires { ⌜ (0 < stride) × (base + stride * n ≤ length (now words)) × Ascending (now words) base stride n ⌝ }
+    requires { ⌜ SortedRun (now words) base stride n ⌝ }
     ensures { λ r. ⌜ r ≡ isGapless (now (words .entry)) base stride n ⌝ }
 {
     for i in 1..n {
@@ -28,7 +30,7 @@ pub fn is_gapless(words: &[u32], base: usize, stride: usize, n: usize) -> bool
 
 // The range of n ascending words; that of none is empty.
 fn range_of(words: &[u32], base: usize, stride: usize, n: usize) -> Range
-    requires { ⌜ (0 < stride) × (base + stride * n ≤ length (now words)) × Ascending (now words) base stride n ⌝ }
+    requires { ⌜ SortedRun (now words) base stride n ⌝ }
     ensures { λ r. ⌜ RangeOf (hasWord (now (words .entry)) base stride n) (r .lowest) (r .highest) (r .whole) ⌝ }
 {
     if n == 0 {
@@ -94,18 +96,27 @@ fn object_range(w: &[u32], start: usize, n: usize) -> Range
     }
 }
 
+// Where the range of a column of the table at place p stands among the numbers.
+pub fn range_at(p: usize, column: usize) -> usize
+    requires { ⌜ (p < mostPredicates) × (column < 2) ⌝ }
+    ensures { λ r. ⌜ r ≡ rangeAt p column ⌝ }
+{
+    6 * p + 3 * column
+}
+
 // The ranges of the two columns of each table: of its subjects, and of its objects.
-pub fn measure_columns(w: &[u32], count: usize, ranges: &mut [u32; 96])
+pub fn collect_statistics(w: &[u32], count: usize, ranges: &mut [u32; 96])
     requires { ⌜ ImageOf count (now w) × (length (now ranges) ≡ 96) ⌝ }
     ensures { λ _. ⌜ AllMeasured (now (w .entry)) (now (ranges .exit)) count × (length (now (ranges .exit)) ≡ 96) ⌝ }
 {
     for i in 0..count {
-        let n = w[3 + 3 * i + 1] as usize;
-        let start = w[3 + 3 * i + 2] as usize;
+        let table = table_entry(w, i);
+        let n = table.rows;
+        let start = table.start;
         let subjects = range_of(w, start, 2, n);
-        put_range(ranges, 6 * i, subjects);
+        put_range(ranges, range_at(i, 0), subjects);
         let objects = object_range(w, start, n);
-        put_range(ranges, 6 * i + 3, objects);
+        put_range(ranges, range_at(i, 1), objects);
     }
 }
 
@@ -120,15 +131,33 @@ pub fn columns_apart(ranges: &[u32; 96], a: usize, b: usize) -> bool
     ranges[b + 1] < ranges[a]
 }
 
-// Whether some table's subjects are not apart from a column.
-pub fn is_reached(ranges: &[u32; 96], count: usize, column: usize) -> bool
-    requires { ⌜ (count ≤ mostPredicates) × (column + 3 ≤ 96) ⌝ }
-    ensures { λ r. ⌜ r ≡ isReached (now (ranges .entry)) count column ⌝ }
+// Whether a column of some table is not apart from the range at a place.
+fn is_reached(ranges: &[u32; 96], count: usize, column: usize, place: usize) -> bool
+    requires { ⌜ (count ≤ mostPredicates) × (column < 2) × (place + 3 ≤ 96) ⌝ }
+    ensures { λ r. ⌜ r ≡ isReached (now (ranges .entry)) count column place ⌝ }
 {
     for p in 0..count {
-        if !columns_apart(ranges, 6 * p, column) {
+        if !columns_apart(ranges, range_at(p, column), place) {
             return true;
         }
     }
     false
+}
+
+// Whether a column that is compared with objects is not apart from the objects of table i, told which columns are.
+pub fn objects_reached(
+    ranges: &[u32; 96],
+    count: usize,
+    subjects: bool,
+    objects: bool,
+    i: usize,
+) -> bool
+    requires { ⌜ (count ≤ mostPredicates) × (i < mostPredicates) × (subjects ≡ areCompared 0 1) × (objects ≡ areCompared 1 1) ⌝ }
+    ensures { λ r. ⌜ r ≡ objectsReached (now (ranges .entry)) count i ⌝ }
+{
+    let place = range_at(i, 1);
+    if subjects && is_reached(ranges, count, 0, place) {
+        return true;
+    }
+    objects && is_reached(ranges, count, 1, place)
 }

@@ -8,3 +8,8 @@ columnOf (suc c) = object
 
 abbrev pub kindOfColumns : ℕ → ℕ → Kind
 kindOfColumns own other = (columnOf own, columnOf other)
+
+-- the number of a column
+abbrev pub columnNumber : Column → ℕ
+columnNumber subject = 0
+columnNumber object = 1

@@ -9,7 +9,7 @@ ghost use Rattle.model.specs.Tables.{semiJoin, kindCount, mostThreshold};
 ghost use Rattle.model.specs.Store.{storedRows, rowsIn, rowsStart, storedStart, vpEntryAt, semiJoinPlace};
 ghost use Rattle.tables.specs.Columns.{kindOfColumns};
 ghost use Rattle.tables.specs.SiteWords.{siteIn, ImageOf, reducedAt};
-ghost use Rattle.statistics.specs.Searching.{Searchable, AllSearchable, ObjectsSorted, AllSorted};
+ghost use Rattle.statistics.specs.IndexedTables.{Searchable, AllSearchable, ObjectsSorted, AllSorted};
 ghost use Rattle.statistics.specs.Ranges.{AllMeasured};
 ghost use Rattle.validation.specs.Joins.{storedHolds, joinHolds, joinsHold, emptyPair};
 ghost use Rattle.validation.specs.declared.entries.Place.the-variants.{At, Wrong};
@@ -18,8 +18,8 @@ use probes::comparing::compare_partnered;
 use probes::counting::count_partnered;
 use probes::marks::should_mark;
 use statistics::objects::copy_objects;
+use statistics::ranges::collect_statistics;
 use statistics::ranges::columns_apart;
-use statistics::ranges::measure_columns;
 use tables::kinds::KINDS;
 use tables::kinds::is_stored;
 use tables::layout::rows_start;
@@ -199,7 +199,7 @@ fn semi_joins_hold_with(
     ensures { λ r. ⌜ r ≡ joinsHold t count (now (w .entry)) used ⌝ }
 {
     let mut ranges = [0u32; 96];
-    measure_columns(w, count, &mut ranges);
+    collect_statistics(w, count, &mut ranges);
     copy_objects(w, count, &mut ranges, objects);
     each_semi_join_holds(t, w, objects, &ranges, count, first, used)
 }

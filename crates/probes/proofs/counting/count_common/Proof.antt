@@ -7,7 +7,7 @@ use lib.ListN.{length}
 use Rattle.model.proofs.Counting.{num}
 use Rattle.searching.specs.Search.{wordAt, hasWord}
 use Rattle.searching.proofs.WordSearch.{word-inside}
-use Rattle.statistics.specs.Searching.{passing}
+use Rattle.statistics.specs.IndexedTables.{passing}
 use Rattle.statistics.proofs.Partnered.{passing-more}
 use Rattle.probes.proofs.counting.count_common.Statement.{statement}
 use Rattle.probes.proofs.counting.count_common.Tie as tie

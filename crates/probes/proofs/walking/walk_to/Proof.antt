@@ -15,10 +15,10 @@ module _ (c : tie.Else2) where
   abbrev start : tie.Start
   start = c .before .before .before .before .before .before
 
-  before-end : c .before .skip-below .result < start .args .n
-  before-end = omega (arith, c .before .skip-below .ensures .within)
+  before-end : c .before .lower-bound-from .result < start .args .n
+  before-end = omega (arith, c .before .lower-bound-from .ensures .within)
 
-  inside : start .args .base + start .args .stride * c .before .skip-below .result < length (start .args .words .now)
+  inside : start .args .base + start .args .stride * c .before .lower-bound-from .result < length (start .args .words .now)
   inside = word-inside (start .args .base) (start .args .stride) (start .pre .0 .0) before-end (start .pre .0 .1)
 
 is-marked-requires : tie.Need-is-marked-requires
@@ -29,12 +29,12 @@ returns c =
     let s = c .before .before .before .before in
     (not-marked (s .pre .0 .3) (sym (c .before .is-marked .ensures) ∙ not-true _ (c .if1 .taken)), s .pre .1)
 
-skip-below-requires : tie.Need-skip-below-requires
-skip-below-requires c κs = search needs
+lower-bound-from-requires : tie.Need-lower-bound-from-requires
+lower-bound-from-requires c κs = search needs
 
 returns-2 : tie.Need-returns-2
 returns-2 c =
-    let split = c .before .skip-below .ensures in
+    let split = c .before .lower-bound-from .ensures in
     (no-word _ _ _ (λ i h e. let less = split .lower i (omega arith) in omega arith), (split .within, split .lower))
 
 mul-found : tie.Need-mul-found
@@ -51,7 +51,7 @@ shared-slice-read-found c = inside (c .before)
 
 returns-3 : tie.Need-returns-3
 returns-3 c =
-    let split = c .before .before .skip-below .ensures in
+    let split = c .before .before .lower-bound-from .ensures in
     (word-there _ _ _ (start (c .before) .pre .0 .2) split (before-end (c .before)), (split .within, split .lower))
 
 pub walk-to-spec : {M : Type 1} → statement M
@@ -60,7 +60,7 @@ walk-to-spec =
     (tie.spec
     is-marked-requires
     returns
-    skip-below-requires
+    lower-bound-from-requires
     returns-2
     mul-found
     add-found

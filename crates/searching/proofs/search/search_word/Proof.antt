@@ -3,21 +3,17 @@ use Prim.Native.Nat.{ℕ, _+_, _*_, _-_, _<_}
 use native.Mathlib.Omega.{arith}
 use lib.ListN.{length}
 use borrow.Author.Needs.{needs}
-use Rattle.searching.proofs.WordSearch.{word-inside, behind-last, word-there, splits-inside}
+use Rattle.searching.proofs.WordSearch.{word-inside, behind-last, word-there, lower-bound-inside}
 use Rattle.searching.proofs.search.search_word.Statement.{statement}
 use Rattle.searching.proofs.search.search_word.Tie as tie
 
--- each of the n words stands in the slice
-inside : {i : ℕ} (c : tie.Start) → i < c .args .n → c .args .base + c .args .stride * i < length (c .args .words .now)
-inside c h = word-inside (c .args .base) (c .args .stride) (c .pre .0) h (c .pre .1)
-
--- so does the last of them
+-- the last word stands in the slice
 last-inside : (c : tie.Start) → 0 < c .args .n → c .args .base + c .args .stride * (c .args .n - 1) < length (c .args .words .now)
-last-inside c h = inside c (omega arith)
+last-inside c h = word-inside (c .pre .0) (omega arith)
 
 -- the words that are not below the value begin in the slice, since the last word is one
-place-inside : (c : tie.After-words-below) → c .words-below .result < c .before .before .before .before .args .n
-place-inside c = splits-inside (c .words-below .ensures) (omega arith) (omega arith)
+place-inside : (c : tie.After-lower-bound) → c .lower-bound .result < c .before .before .before .before .args .n
+place-inside c = lower-bound-inside (c .lower-bound .ensures) (omega arith) (omega arith)
 
 sub-if1 : tie.Need-sub-if1
 sub-if1 c = search needs
@@ -35,25 +31,25 @@ shared-slice-read-if1 : tie.Need-shared-slice-read-if1
 shared-slice-read-if1 c = last-inside (c .before .before) (omega arith)
 
 returns : tie.Need-returns
-returns c = behind-last _ _ _ (c .before .before .before .pre .2) (omega arith)
+returns c = behind-last _ _ _ (c .before .before .before .pre .0 .ascending) (omega arith)
 
-words-below-requires : tie.Need-words-below-requires
-words-below-requires c κs = search needs
+lower-bound-requires : tie.Need-lower-bound-requires
+lower-bound-requires c κs = search needs
 
 mul-result : tie.Need-mul-result
-mul-result c = omega (arith, inside (c .before .before .before .before) (place-inside c))
+mul-result c = omega (arith, word-inside (c .before .before .before .before .pre .0) (place-inside c))
 
 add-result : tie.Need-add-result
-add-result c = omega (arith, inside (c .before .before .before .before) (place-inside c))
+add-result c = omega (arith, word-inside (c .before .before .before .before .pre .0) (place-inside c))
 
 mul-result-2 : tie.Need-mul-result-2
-mul-result-2 c = omega (arith, inside (c .before .before .before .before) (place-inside c))
+mul-result-2 c = omega (arith, word-inside (c .before .before .before .before .pre .0) (place-inside c))
 
 shared-slice-read-result : tie.Need-shared-slice-read-result
-shared-slice-read-result c = inside (c .before .before .before .before .before) (place-inside (c .before))
+shared-slice-read-result c = word-inside (c .before .before .before .before .before .pre .0) (place-inside (c .before))
 
 returns-2 : tie.Need-returns-2
-returns-2 c = word-there _ _ _ (c .before .before .before .before .before .pre .2) (c .before .words-below .ensures) (place-inside (c .before))
+returns-2 c = word-there _ _ _ (c .before .before .before .before .before .pre .0 .ascending) (c .before .lower-bound .ensures) (place-inside (c .before))
 
 pub search-word-spec : {M : Type 1} → statement M
 search-word-spec =
@@ -65,7 +61,7 @@ search-word-spec =
     mul-if1-2
     shared-slice-read-if1
     returns
-    words-below-requires
+    lower-bound-requires
     mul-result
     add-result
     mul-result-2

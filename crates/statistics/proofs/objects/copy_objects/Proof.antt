@@ -1,129 +1,129 @@
 -- The tables one by one. The invariant: the objects of each table passed that are reached are sorted, and the ranges are those of the columns.
-use Prim.Native.Nat.{ℕ, _+_, _*_, _-_, _/_, _≤_}
+use Prim.Native.Nat.{ℕ, _+_, _*_, _-_, _/_, _≤_, _<_}
 use native.Mathlib.Omega.{arith}
-use mathlib.Core.Path.{_≡_, refl, sym, _∙_, subst}
+use mathlib.Core.Path.{_≡_, refl, _∙_}
+use mathlib.Core.Bool.{true}
+use mathlib.Core.List.{List}
 use lib.ListN.{length, getD, length-set}
-use Rattle.model.specs.Store.{vpEntryAt}
-use Rattle.model.specs.Site.{rowTotal}
+use borrow.Author.Needs.{needs}
+use Rattle.model.specs.Site.{mostPredicates, rowTotal}
+use Rattle.model.specs.Store.{rowsStart, vpEntryAt}
+use Rattle.tables.specs.declared.layout.TableEntry.{TableEntry}
+use Rattle.tables.specs.Entries.{TableEntryAt}
 use Rattle.tables.specs.SiteWords.{siteIn, ImageOf}
-use Rattle.tables.proofs.Images.{few-predicates, entries-inside, table-in}
-use Rattle.statistics.specs.Searching.{AllSorted}
-use Rattle.statistics.specs.Ranges.{AllMeasured}
+use Rattle.tables.proofs.Images.{few-predicates, entry-inside}
+use Rattle.statistics.specs.IndexedTables.{AllSorted, CopyOf}
+use Rattle.statistics.specs.Ranges.{isGapless, rangeAt, AllMeasured}
 use Rattle.statistics.proofs.ColumnRanges.{range-whole, measured-again, reached-by}
 use Rattle.statistics.proofs.Partnered.{same-answers}
-use Rattle.statistics.proofs.SearchableTables.{behind-first, part-fits, all-searchable, one-more-sorted}
+use Rattle.statistics.proofs.SearchableTables.{behind-first, part-fits, entry-run, all-searchable, sorted-more}
 use Rattle.statistics.proofs.objects.copy_objects.Statement.{statement}
 use Rattle.statistics.proofs.objects.copy_objects.Tie as tie
 
 abbrev Inv-loop : tie.InvT-loop
-Inv-loop w count ranges₀ objects₀ first i₀ ranges objects i = (i ≤ count) × (length ranges ≡ 96) × (length objects ≡ length objects₀) × AllSorted count w objects ranges i × AllMeasured w ranges count
+Inv-loop w count ranges₀ objects₀ first by-subjects by-objects i₀ ranges objects i =
+    (i ≤ count) × (length ranges ≡ 96) × (length objects ≡ length objects₀) × AllSorted count w objects ranges i × AllMeasured w ranges count
 
 abbrev μ-loop : tie.MeasureT-loop
-μ-loop w count ranges₀ objects₀ first i₀ ranges objects i = count - i
+μ-loop w count ranges₀ objects₀ first by-subjects by-objects i₀ ranges objects i = count - i
 
-module _ (c : tie.In-loop Inv-loop μ-loop) where
+-- the copy is of the table that an entry has
+module _ {words : List ℕ} {i : ℕ} (r : TableEntry) (entry : TableEntryAt words i r) where
+  copy-of-table : {copy : List ℕ} → CopyOf words (r .start) (r .rows) copy → CopyOf words (getD words (vpEntryAt i + 2) 0) (getD words (vpEntryAt i + 1) 0) copy
+  copy-of-table c = rw (entry .start, entry .rows) at c
+
+  gapless-table : (copy : List ℕ) → isGapless copy 0 1 (r .rows) ≡ true → isGapless copy 0 1 (getD words (vpEntryAt i + 1) 0) ≡ true
+  gapless-table copy e = rw (entry .rows) at e
+
+-- what is known once the entry of table i is read
+module _ (c : tie.After-table-entry Inv-loop μ-loop) where
+  abbrev turn : tie.In-loop Inv-loop μ-loop
+  turn = c .before
+
   abbrev start : tie.Start Inv-loop μ-loop
-  start = c .before .before .before .before .before
+  start = turn .before .before .before .before .before .before .before
 
   -- the words are an image of few predicates
   image : ImageOf (start .args .count) (start .args .w .now)
   image = start .pre .0
 
-  few : start .args .count ≤ 16
-  few = few-predicates image
+  few : turn .before .loop .i < mostPredicates
+  few = entry-inside image _ (turn .loop-test .taken) .0
 
-  -- the part of the copy that table i has ends where the rows of all would, or before
-  part : let w = start .args .w .now in
-      let i = c .before .loop .i in
-      (getD w (vpEntryAt i + 2) 0 - c .before .before .rows-start .result) / 2 + getD w (vpEntryAt i + 1) 0 ≤ rowTotal (siteIn (start .args .count) w)
-  part =
-      let w = start .args .w .now in
-      let i = c .before .loop .i in
-      subst (λ (first : ℕ). (getD w (vpEntryAt i + 2) 0 - first) / 2 + getD w (vpEntryAt i + 1) 0 ≤ rowTotal (siteIn (start .args .count) w)) (sym (c .before .before .rows-start .ensures))
-      (part-fits image i (c .loop-test .taken))
+  abbrev first : ℕ
+  first = turn .before .before .before .before .rows-start .result
+
+  abbrev startOf : ℕ
+  startOf = c .table-entry .result .start
+
+  abbrev rowsOf : ℕ
+  rowsOf = c .table-entry .result .rows
+
+  behind : first ≤ startOf
+  behind = omega (arith, behind-first image _ (turn .loop-test .taken), turn .before .before .before .before .rows-start .ensures, c .table-entry .ensures .start)
+
+  -- where the table's part of the copy starts, as the laws say it
+  part-start : (startOf - first) / 2 ≡ (getD (start .args .w .now) (vpEntryAt (turn .before .loop .i) + 2) 0 - rowsStart (start .args .count)) / 2
+  part-start = omega (arith, turn .before .before .before .before .rows-start .ensures, c .table-entry .ensures .start)
+
+  -- it ends where the rows of all would, or before
+  part : (startOf - first) / 2 + rowsOf ≤ rowTotal (siteIn (start .args .count) (start .args .w .now))
+  part = omega (arith, part-start, c .table-entry .ensures .rows, part-fits image _ (turn .loop-test .taken))
 
 rows-start-requires : tie.Need-rows-start-requires Inv-loop μ-loop
 rows-start-requires c κs = few-predicates (c .before .before .pre .0)
 
+are-compared-requires : tie.Need-are-compared-requires Inv-loop μ-loop
+are-compared-requires c κs = search needs
+
+are-compared-requires-2 : tie.Need-are-compared-requires-2 Inv-loop μ-loop
+are-compared-requires-2 c κs = search needs
+
 loop-holds : tie.Need-loop-holds Inv-loop μ-loop
-loop-holds c = (omega arith, c .before .before .before .pre .3, refl, (λ i h. absurd (omega arith)), c .before .before .before .pre .2)
+loop-holds c =
+    let pre = c .before .before .before .before .before .pre in
+    (omega arith, pre .3, refl, (λ i h. absurd (omega arith)), pre .2)
 
-mul-n : tie.Need-mul-n Inv-loop μ-loop
-mul-n c = omega (arith, few c)
-
-add-n : tie.Need-add-n Inv-loop μ-loop
-add-n c = omega (arith, few c)
-
-add-n-2 : tie.Need-add-n-2 Inv-loop μ-loop
-add-n-2 c = omega (arith, few c)
-
-mul-n-2 : tie.Need-mul-n-2 Inv-loop μ-loop
-mul-n-2 c = omega (arith, few c)
-
-shared-slice-read-n : tie.Need-shared-slice-read-n Inv-loop μ-loop
-shared-slice-read-n c = omega (arith, entries-inside (image (c .before)))
-
-cast-n : tie.Need-cast-n Inv-loop μ-loop
-cast-n c = omega (arith, c .shared-slice-known2 .given (vpEntryAt (c .before .before .loop .i) + 1))
-
-mul-start : tie.Need-mul-start Inv-loop μ-loop
-mul-start c = omega (arith, few (c .before))
-
-add-start : tie.Need-add-start Inv-loop μ-loop
-add-start c = omega (arith, few (c .before))
-
-add-start-2 : tie.Need-add-start-2 Inv-loop μ-loop
-add-start-2 c = omega (arith, few (c .before))
-
-mul-start-2 : tie.Need-mul-start-2 Inv-loop μ-loop
-mul-start-2 c = omega (arith, few (c .before))
-
-shared-slice-read-start : tie.Need-shared-slice-read-start Inv-loop μ-loop
-shared-slice-read-start c = omega (arith, entries-inside (image (c .before .before)))
-
-cast-start : tie.Need-cast-start Inv-loop μ-loop
-cast-start c = omega (arith, c .shared-slice-known3 .given (vpEntryAt (c .before .before .before .loop .i) + 2))
+table-entry-requires : tie.Need-table-entry-requires Inv-loop μ-loop
+table-entry-requires c κs = entry-inside (c .before .before .before .before .before .before .before .pre .0) _ (c .loop-test .taken)
 
 sub-to : tie.Need-sub-to Inv-loop μ-loop
-sub-to c = omega (arith, behind-first (image (c .before .before)) _ (c .before .before .loop-test .taken), c .before .before .before .before .rows-start .ensures)
+sub-to c = behind c
 
-mul-is-reached : tie.Need-mul-is-reached Inv-loop μ-loop
-mul-is-reached c = omega (arith, few (c .before .before .before))
-
-add-is-reached : tie.Need-add-is-reached Inv-loop μ-loop
-add-is-reached c = omega (arith, few (c .before .before .before))
-
-is-reached-requires : tie.Need-is-reached-requires Inv-loop μ-loop
-is-reached-requires c κs = (few (c .before .before .before), omega (arith, few (c .before .before .before)))
+objects-reached-requires : tie.Need-objects-reached-requires Inv-loop μ-loop
+objects-reached-requires c κs =
+    let entry = c .before in
+    let compared = turn entry .before .before in
+    (few-predicates (image entry), few entry, compared .before .are-compared .ensures, compared .are-compared2 .ensures)
 
 mul-copy-reached : tie.Need-mul-copy-reached Inv-loop μ-loop
-mul-copy-reached c = omega (arith, part (c .before .before .before .before))
+mul-copy-reached c = omega (arith, part (c .before .before))
 
 sub-copy-reached : tie.Need-sub-copy-reached Inv-loop μ-loop
-sub-copy-reached c = omega (arith, part (c .before .before .before .before))
+sub-copy-reached c = omega (arith, part (c .before .before))
 
 part-copy-reached-start : tie.Need-part-copy-reached-start Inv-loop μ-loop
-part-copy-reached-start c = omega (arith, part (c .before .before .before .before))
+part-copy-reached-start c = omega (arith, part (c .before .before))
 
 part-copy-reached-end : tie.Need-part-copy-reached-end Inv-loop μ-loop
 part-copy-reached-end c = omega arith
 
 copy-reached-requires : tie.Need-copy-reached-requires Inv-loop μ-loop
 copy-reached-requires c κs =
-    let turn = c .before .before .before .before .before in
-    (table-in (image turn) _ (turn .loop-test .taken) .inside, omega (arith, part turn, c .copy-reached-arg .given .2))
+    let entry = c .before .before .before in
+    (entry-run (image entry) _ (turn entry .loop-test .taken) _ (entry .table-entry .ensures) .inside, omega (arith, part entry, c .copy-reached-arg .given .2))
 
-mul-ranges : tie.Need-mul-ranges Inv-loop μ-loop
-mul-ranges c = omega (arith, few (c .before .before .before .before .before .before .before .before))
+range-at-requires : tie.Need-range-at-requires Inv-loop μ-loop
+range-at-requires c κs = (few (c .before .before .before .before .before .before), omega arith)
 
 add-ranges : tie.Need-add-ranges Inv-loop μ-loop
-add-ranges c = omega (arith, few (c .before .before .before .before .before .before .before .before))
+add-ranges c = omega (arith, c .range-at .ensures, few (c .before .before .before .before .before .before .before))
 
-mul-ranges-2 : tie.Need-mul-ranges-2 Inv-loop μ-loop
-mul-ranges-2 c = omega (arith, few (c .before .before .before .before .before .before .before .before))
+mul-ranges : tie.Need-mul-ranges Inv-loop μ-loop
+mul-ranges c = omega (arith, c .range-at .ensures, few (c .before .before .before .before .before .before .before))
 
 element-write-ranges : tie.Need-element-write-ranges Inv-loop μ-loop
-element-write-ranges c = omega (arith, few (c .before .before .before .before .before .before .before .before))
+element-write-ranges c = omega (arith, c .range-at .ensures, few (c .before .before .before .before .before .before .before))
 
 add-i : tie.Need-add-i Inv-loop μ-loop
 add-i c = omega arith
@@ -133,33 +133,34 @@ loop-less c = omega arith
 
 loop-again : tie.Need-loop-again Inv-loop μ-loop
 loop-again c =
-    let put = c .before .before in
-    let turn = put .before .before .before .before .before .before in
-    let s = start turn in
+    let put = c .before .before .before in
+    let back = c .before .before .objects in
+    let entry = put .before .before .before .before in
+    let s = start entry in
     let w = s .args .w .now in
-    let i = turn .before .loop .i in
-    let ranges = turn .before .loop .ranges in
-    let inv = turn .before .loop .inv in
+    let loop = turn entry .before .loop in
+    let inv = loop .inv in
     let whole = put .copy-reached .result in
     let copy = put .copy-reached .last .1 .1 .1 .1 .0 in
-    let first = turn .before .before .rows-start .ensures in
-    let size = c .before .objects .given .1 in
-    let reached = c .before .before .before .before .is-reached .ensures in
-    let room : rowTotal (siteIn (s .args .count) w) ≤ length (turn .before .loop .objects) = omega (arith, inv .2, s .pre .1) in (
+    let read = entry .table-entry .ensures in
+    let asked = put .before .before .objects-reached .ensures in
+    let among = turn entry .loop-test .taken in
+    let room : rowTotal (siteIn (s .args .count) w) ≤ length (loop .objects) = omega (arith, inv .2, s .pre .1) in (
       omega arith,
-      length-set ranges (6 * i + 5) whole ∙ inv .1,
-      size ∙ inv .2,
-      rw first
-          (one-more-sorted (image turn) (turn .before .loop .objects) copy _ i (turn .loop-test .taken) room
-          (omega (arith, part turn, c .before .objects .given .0, put .before .copy-reached-arg .given .2)) ranges whole (inv .3)
-          (λ p m e. put .copy-reached .ensures .0 (reached ∙ reached-by ranges (s .args .count) (6 * i + 3) p m e))),
-      measured-again ranges i whole w (s .args .count) (omega (arith, few turn, inv .1)) (inv .4)
+      length-set (loop .ranges) _ whole ∙ inv .1,
+      back .given .1 ∙ inv .2,
+      rw (part-start entry, c .range-at .ensures)
+          (sorted-more (image entry) (loop .objects) copy _ (loop .i) among room
+          (omega (arith, part entry, read .rows, back .given .0, put .before .copy-reached-arg .given .2)) (loop .ranges) whole (inv .3)
+          (λ p m column n compared e. copy-of-table _ read (put .copy-reached .ensures .0 (asked ∙ reached-by (loop .ranges) (s .args .count) (loop .i) p column m n compared e)))),
+      rw (c .range-at .ensures)
+          (measured-again (loop .ranges) (loop .i) whole w (s .args .count) (omega (arith, few entry, inv .1)) (inv .4)
           (range-whole _ whole copy _
           (λ e.
-          let (asked, gapless) = put .copy-reached .ensures .1 e in
-          let sorted = put .copy-reached .ensures .0 asked in
-          (same-answers (sorted .same), sorted .ascend, gapless))
-          (inv .4 i (turn .loop-test .taken) 1 (omega arith))),
+          let (reached, gapless) = put .copy-reached .ensures .1 e in
+          let sorted = copy-of-table _ read (put .copy-reached .ensures .0 reached) in
+          (same-answers (sorted .same), sorted .ascend, gapless-table _ read copy gapless))
+          (inv .4 (loop .i) among 1 (omega arith)))),
     )
 
 same-length : tie.Need-same-length Inv-loop μ-loop
@@ -167,9 +168,13 @@ same-length c = c .before .loop .inv .2
 
 returns : tie.Need-returns Inv-loop μ-loop
 returns c =
-    let s = c .before .before .before .before .before in
+    let s = c .before .before .before .before .before .before .before in
     let inv = c .before .loop .inv in
-    (all-searchable (s .pre .0) _ (omega (arith, inv .2, s .pre .1)), (λ i h. inv .3 i (omega arith)), inv .4)
+    record {
+      searchable = all-searchable (s .pre .0) _ (omega (arith, inv .2, s .pre .1));
+      sorted = λ i h. inv .3 i (omega arith);
+      measured = inv .4;
+    }
 
 pub copy-objects-spec : {M : Type 1} → statement M
 copy-objects-spec =
@@ -178,31 +183,20 @@ copy-objects-spec =
     Inv-loop
     μ-loop
     rows-start-requires
+    are-compared-requires
+    are-compared-requires-2
     loop-holds
-    mul-n
-    add-n
-    add-n-2
-    mul-n-2
-    shared-slice-read-n
-    cast-n
-    mul-start
-    add-start
-    add-start-2
-    mul-start-2
-    shared-slice-read-start
-    cast-start
+    table-entry-requires
     sub-to
-    mul-is-reached
-    add-is-reached
-    is-reached-requires
+    objects-reached-requires
     mul-copy-reached
     sub-copy-reached
     part-copy-reached-start
     part-copy-reached-end
     copy-reached-requires
-    mul-ranges
+    range-at-requires
     add-ranges
-    mul-ranges-2
+    mul-ranges
     element-write-ranges
     add-i
     loop-less

@@ -25,13 +25,13 @@ module _ (c : tie.In-loop Inv-loop μ-loop) where
   i = c .before .loop .i
 
   inside : start .args .base + start .args .stride * i < length (start .args .words .now)
-  inside = word-inside (start .args .base) (start .args .stride) (start .pre .0) (c .loop-test .taken) (start .pre .1)
+  inside = word-inside (start .pre) (c .loop-test .taken)
 
   earlier-inside : start .args .base + start .args .stride * (i - 1) < length (start .args .words .now)
-  earlier-inside = word-inside (start .args .base) (start .args .stride) (start .pre .0) (omega arith) (start .pre .1)
+  earlier-inside = word-inside (start .pre) (omega arith)
 
   ascends : wordAt (start .args .words .now) (start .args .base) (start .args .stride) (i - 1) ≤ wordAt (start .args .words .now) (start .args .base) (start .args .stride) i
-  ascends = start .pre .2 (i - 1) i (omega arith) (c .loop-test .taken)
+  ascends = start .pre .ascending (i - 1) i (omega arith) (c .loop-test .taken)
 
   -- the i-th word is the one behind that before it
   behind : wordAt (start .args .words .now) (start .args .base) (start .args .stride) (i - 1 + 1) ≡ wordAt (start .args .words .now) (start .args .base) (start .args .stride) i

@@ -1,5 +1,5 @@
--- The tables one by one. The invariant: the subjects of each table passed are apart from the column.
-use Prim.Native.Nat.{ℕ, _*_, _-_, _<_}
+-- The tables one by one. The invariant: the column of each table passed is apart from the range.
+use Prim.Native.Nat.{ℕ, _-_, _<_}
 use native.Mathlib.Omega.{arith}
 use mathlib.Core.Path.{_≡_, sym, ap, _∙_}
 use mathlib.Core.Bool.{true, not}
@@ -9,29 +9,36 @@ use Rattle.model.specs.Lists.{below}
 use Rattle.model.proofs.Booleans.{not-both, to-false}
 use Rattle.model.proofs.Membership.{into-any, from-any}
 use Rattle.model.proofs.Below.{into-below, from-below}
-use Rattle.statistics.specs.Ranges.{apart}
+use Rattle.statistics.specs.Ranges.{rangeAt, apart, isReached}
 use Rattle.statistics.proofs.ranges.is_reached.Statement.{statement}
 use Rattle.statistics.proofs.ranges.is_reached.Tie as tie
 
 abbrev Inv-loop : tie.InvT-loop
-Inv-loop ranges count column p₀ p = (j : ℕ) → j < p → apart ranges (6 * j) column ≡ true
+Inv-loop ranges count column place p₀ p = (j : ℕ) → j < p → apart ranges (rangeAt j column) place ≡ true
 
 abbrev μ-loop : tie.MeasureT-loop
-μ-loop ranges count column p₀ p = count - p
+μ-loop ranges count column place p₀ p = count - p
 
 loop-holds : tie.Need-loop-holds Inv-loop μ-loop
 loop-holds c = λ j h. absurd (omega arith)
 
-mul-columns-apart : tie.Need-mul-columns-apart Inv-loop μ-loop
-mul-columns-apart c = omega (arith, c .before .before .pre .0)
+range-at-requires : tie.Need-range-at-requires Inv-loop μ-loop
+range-at-requires c κs = let pre = c .before .before .pre in (omega (arith, pre .0), pre .1)
 
 columns-apart-requires : tie.Need-columns-apart-requires Inv-loop μ-loop
-columns-apart-requires c κs = (omega (arith, c .before .before .pre .0), c .before .before .pre .1)
+columns-apart-requires c κs = let pre = c .before .before .before .pre in (omega (arith, c .range-at .ensures, pre .0, pre .1), pre .2)
+
+-- whether the column of the table at hand is apart
+answer : (c : tie.After-columns-apart Inv-loop μ-loop) → let l = c .before .before .before in
+    let a = l .before .args in
+    apart (a .ranges .now) (rangeAt (l .loop .p) (a .column)) (a .place) ≡ c .columns-apart .result
+answer c = rw (sym (c .before .range-at .ensures)) (sym (c .columns-apart .ensures))
 
 returns : tie.Need-returns Inv-loop μ-loop
+unfolding isReached
 returns c =
-    let t = c .before .before in
-    sym (into-any _ (into-below _ (t .loop-test .taken)) (ap not (sym (c .before .columns-apart .ensures)) ∙ c .if1 .taken))
+    let t = c .before .before .before in
+    sym (into-any _ (into-below _ (t .loop-test .taken)) (ap not (answer (c .before)) ∙ c .if1 .taken))
 
 add-p : tie.Need-add-p Inv-loop μ-loop
 add-p c = omega arith
@@ -41,11 +48,12 @@ loop-less c = omega arith
 
 loop-again : tie.Need-loop-again Inv-loop μ-loop
 loop-again c =
-    let l = c .before .before .before in
-    let apart-here = sym (c .before .columns-apart .ensures) ∙ not-false _ (c .if1 .left) in
-    below-more (λ j. apart (l .before .args .ranges .now) (6 * j) (l .before .args .column) ≡ true) (l .loop .p) (l .loop .inv) apart-here
+    let l = c .before .before .before .before in
+    let a = l .before .args in
+    below-more (λ j. apart (a .ranges .now) (rangeAt j (a .column)) (a .place) ≡ true) (l .loop .p) (l .loop .inv) (answer (c .before) ∙ not-false _ (c .if1 .left))
 
 returns-2 : tie.Need-returns-2 Inv-loop μ-loop
+unfolding isReached
 returns-2 c =
     let l = c .before in
     let count = l .before .args .count in
@@ -63,7 +71,7 @@ is-reached-spec =
     Inv-loop
     μ-loop
     loop-holds
-    mul-columns-apart
+    range-at-requires
     columns-apart-requires
     returns
     add-p

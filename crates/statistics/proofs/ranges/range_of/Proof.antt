@@ -11,9 +11,9 @@ use Rattle.statistics.proofs.ColumnRanges.{no-range, range}
 use Rattle.statistics.proofs.ranges.range_of.Statement.{statement}
 use Rattle.statistics.proofs.ranges.range_of.Tie as tie
 
--- each of the n words stands in the slice
-inside : {i : ℕ} (c : tie.Start) → i < c .args .n → c .args .base + c .args .stride * i < length (c .args .words .now)
-inside c h = word-inside (c .args .base) (c .args .stride) (c .pre .0) h (c .pre .1)
+-- the last word stands in the slice
+last-inside : (c : tie.Start) → 0 < c .args .n → c .args .base + c .args .stride * (c .args .n - 1) < length (c .args .words .now)
+last-inside c h = word-inside (c .pre) (omega arith)
 
 returns : tie.Need-returns
 returns c =
@@ -24,22 +24,22 @@ mul-lowest : tie.Need-mul-lowest
 mul-lowest c = search needs
 
 shared-slice-read-lowest : tie.Need-shared-slice-read-lowest
-shared-slice-read-lowest c = omega (arith, inside {i = 0} (c .before .before .before) (omega arith))
+shared-slice-read-lowest c = omega (arith, word-inside {i = 0} (c .before .before .before .pre) (omega arith))
 
 sub-highest : tie.Need-sub-highest
 sub-highest c = search needs
 
 mul-highest : tie.Need-mul-highest
-mul-highest c = omega (arith, inside {i = c .before .before .before .args .n - 1} (c .before .before .before) (omega arith))
+mul-highest c = omega (arith, last-inside (c .before .before .before) (omega arith))
 
 add-highest : tie.Need-add-highest
-add-highest c = omega (arith, inside {i = c .before .before .before .args .n - 1} (c .before .before .before) (omega arith))
+add-highest c = omega (arith, last-inside (c .before .before .before) (omega arith))
 
 mul-highest-2 : tie.Need-mul-highest-2
-mul-highest-2 c = omega (arith, inside {i = c .before .before .before .args .n - 1} (c .before .before .before) (omega arith))
+mul-highest-2 c = omega (arith, last-inside (c .before .before .before) (omega arith))
 
 shared-slice-read-highest : tie.Need-shared-slice-read-highest
-shared-slice-read-highest c = inside {i = c .before .before .before .before .args .n - 1} (c .before .before .before .before) (omega arith)
+shared-slice-read-highest c = last-inside (c .before .before .before .before) (omega arith)
 
 is-gapless-requires : tie.Need-is-gapless-requires
 is-gapless-requires c κs = search needs
@@ -47,12 +47,12 @@ is-gapless-requires c κs = search needs
 returns-2 : tie.Need-returns-2
 returns-2 c =
     let s = c .before .before .before .before .before .before in
-    range _ _ _ (s .args .n) 1 (s .pre .2) (omega arith) (λ _. sym (c .before .is-gapless .ensures) ∙ c .if2 .taken)
+    range _ _ _ (s .args .n) 1 (s .pre .ascending) (omega arith) (λ _. sym (c .before .is-gapless .ensures) ∙ c .if2 .taken)
 
 returns-3 : tie.Need-returns-3
 returns-3 c =
     let s = c .before .before .before .before .before .before in
-    range _ _ _ (s .args .n) 0 (s .pre .2) (omega arith) (λ e. absurd (omega arith))
+    range _ _ _ (s .args .n) 0 (s .pre .ascending) (omega arith) (λ e. absurd (omega arith))
 
 pub range-of-spec : {M : Type 1} → statement M
 range-of-spec =

@@ -13,7 +13,7 @@ use Rattle.model.specs.Tables.{semiJoin, isStored, kindAt, kindCount}
 use Rattle.model.specs.Store.{Reduced, rowsIn, vpEntryAt, semiJoinPlace}
 use Rattle.tables.specs.Columns.{columnOf, kindOfColumns}
 use Rattle.tables.specs.SiteWords.{siteIn, reducedAt}
-use Rattle.statistics.specs.Searching.{Searchable, ObjectsSorted}
+use Rattle.statistics.specs.IndexedTables.{Searchable, ObjectsSorted}
 use Rattle.statistics.specs.Ranges.{ColumnRange, apart}
 use Rattle.tables.proofs.Images.{few-predicates, entries-inside}
 use Rattle.tables.proofs.Entries.{place-below, counted-of, left-fewer}

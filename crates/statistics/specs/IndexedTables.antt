@@ -1,16 +1,17 @@
 -- Tables whose rows can be searched by either column: by the subjects, which ascend, and by the objects, of which a copy ascends where
--- some table's subjects reach them.
-use Prim.Native.Nat.{ℕ, _+_, _-_, _*_, _/_, _≤_, _<_}
+-- some column that is compared with them reaches them.
+use Prim.Native.Nat.{ℕ, _+_, _-_, _/_, _≤_, _<_}
 use mathlib.Core.Path.{_≡_}
-use mathlib.Core.Bool.{Bool, false}
+use mathlib.Core.Bool.{Bool, true, false}
 use mathlib.Core.List.{List}
 use lib.ListN.{length, getD, drop}
 use Rattle.model.specs.Lists.{filter, below}
 use Rattle.model.specs.Site.{Row}
 use Rattle.model.specs.Tables.{Column, at, object}
 use Rattle.model.specs.Store.{rowsStart, rowsIn, vpEntryAt}
-use Rattle.searching.specs.Search.{wordAt, Ascending}
-use Rattle.statistics.specs.Ranges.{apart}
+use Rattle.searching.specs.Search.{wordAt, Ascending, SortedRun}
+use Rattle.statistics.specs.Compared.{areCompared}
+use Rattle.statistics.specs.Ranges.{rangeAt, apart, AllMeasured}
 
 -- how many of n words pass a test
 unfoldable pub passing : List ℕ → ℕ → ℕ → ℕ → (ℕ → Bool) → ℕ
@@ -27,24 +28,35 @@ module _ (words objects : List ℕ) (first : ℕ) where
 
   pub record Searchable (start n : ℕ) : Type 0 where
     pub behind : first ≤ start
-    pub inside : start + 2 * n ≤ length words
+    pub subjects : SortedRun words start 2 n
     pub copied : copyAt start + n ≤ length objects
-    pub subjects-ascend : Ascending words start 2 n
 
   pub record ObjectsSorted (start n : ℕ) : Type 0 where
     pub objects-ascend : Ascending objects (copyAt start) 1 n
     pub same-objects : SameValues objects (copyAt start) 1 n object (rowsIn n (drop start words))
+
+-- one side of a semi-join: n rows at `start`, which can be searched by a column
+pub record SearchableBy (words objects : List ℕ) (first start n column : ℕ) : Type 0 where
+  pub table : Searchable words objects first start n
+  pub small : column < 2
+  pub sorted : column ≡ 1 → ObjectsSorted words objects first start n
 
 -- each of the first k tables of an image of `count` predicates can be
 abbrev pub AllSearchable : ℕ → List ℕ → List ℕ → ℕ → Type 0
 AllSearchable count words objects k =
     (i : ℕ) → i < k → Searchable words objects (rowsStart count) (getD words (vpEntryAt i + 2) 0) (getD words (vpEntryAt i + 1) 0)
 
--- the objects of each of the first k are sorted, if the subjects of some table are not apart from them
+-- the objects of each of the first k are sorted, if a column of some table that is compared with objects is not apart from them
 abbrev pub AllSorted : ℕ → List ℕ → List ℕ → List ℕ → ℕ → Type 0
 AllSorted count words objects ranges k =
-    (i : ℕ) → i < k → (p : ℕ) → p < count → apart ranges (6 * p) (6 * i + 3) ≡ false
+    (i : ℕ) → i < k → (p : ℕ) → p < count → (column : ℕ) → column < 2 → areCompared column 1 ≡ true → apart ranges (rangeAt p column) (rangeAt i 1) ≡ false
     → ObjectsSorted words objects (rowsStart count) (getD words (vpEntryAt i + 2) 0) (getD words (vpEntryAt i + 1) 0)
+
+-- what question 10 makes once of an image: a copy of objects and ranges of columns, by which its tables are searched
+pub record IndexedTables (count : ℕ) (words objects ranges : List ℕ) : Type 0 where
+  pub searchable : AllSearchable count words objects count
+  pub sorted : AllSorted count words objects ranges count
+  pub measured : AllMeasured words ranges count
 
 -- the first n words are the objects of the rows at `start`, in ascending order
 pub record CopyOf (words : List ℕ) (start n : ℕ) (copy : List ℕ) : Type 0 where

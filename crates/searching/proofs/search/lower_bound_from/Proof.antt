@@ -1,27 +1,24 @@
--- The invariant of `skip_below`: the words before `place` are below the value.
-use Prim.Native.Nat.{ℕ, _+_, _*_, _-_, _≤_, _<_}
+-- The invariant of `lower_bound_from`: the words before `place` are below the value.
+use Prim.Native.Nat.{ℕ, _+_, _*_, _-_, _<_}
 use native.Mathlib.Omega.{arith}
 use lib.ListN.{length}
-use Rattle.searching.specs.Search.{wordAt}
-use Rattle.searching.proofs.WordSearch.{word-inside, splits-after}
-use Rattle.searching.proofs.search.skip_below.Statement.{statement}
-use Rattle.searching.proofs.search.skip_below.Tie as tie
+use Rattle.searching.specs.Search.{FirstBelow}
+use Rattle.searching.proofs.WordSearch.{word-inside, lower-bound-at}
+use Rattle.searching.proofs.search.lower_bound_from.Statement.{statement}
+use Rattle.searching.proofs.search.lower_bound_from.Tie as tie
 
 abbrev Inv-loop : tie.InvT-loop
-Inv-loop words base stride n from value place₀ place =
-    (place ≤ n) × ((i : ℕ) → i < place → wordAt words base stride i < value)
+Inv-loop words base stride n from value place₀ place = FirstBelow words base stride n value place
 
 abbrev μ-loop : tie.MeasureT-loop
 μ-loop words base stride n from value place₀ place = n - place
 
 -- the word there stands in the slice
 inside : (c : tie.In-loop Inv-loop μ-loop) → let g = c .before .before .args in g .base + g .stride * c .before .loop .place < length (g .words .now)
-inside c =
-    let start = c .before .before in
-    word-inside (start .args .base) (start .args .stride) (start .pre .0) (omega arith) (start .pre .1)
+inside c = word-inside (c .before .before .pre .0) (omega arith)
 
 loop-holds : tie.Need-loop-holds Inv-loop μ-loop
-loop-holds c = (c .pre .3, c .pre .4)
+loop-holds c = c .pre .1
 
 mul-if1 : tie.Need-mul-if1 Inv-loop μ-loop
 mul-if1 c = omega (arith, inside c)
@@ -39,7 +36,7 @@ returns : tie.Need-returns Inv-loop μ-loop
 returns c =
     let turn = c .before .before in
     let inv = turn .before .loop .inv in
-    splits-after _ _ _ (turn .before .before .pre .2) (omega arith) (λ some. inv .1 _ (omega arith)) (c .if1 .taken)
+    lower-bound-at _ _ _ (turn .before .before .pre .0 .ascending) (omega arith) (λ some. inv .lower _ (omega arith)) (c .if1 .taken)
 
 add-place : tie.Need-add-place Inv-loop μ-loop
 add-place c = omega arith
@@ -51,16 +48,16 @@ loop-less c = omega arith
 loop-again : tie.Need-loop-again Inv-loop μ-loop
 loop-again c =
     let turn = c .before .before in
-    let ascending = turn .before .before .pre .2 in
-    (omega arith, λ i h. omega (arith, ascending i (turn .before .loop .place) (omega arith) (omega arith)))
+    let ascending = turn .before .before .pre .0 .ascending in
+    record { within = omega arith; lower = λ i h. omega (arith, ascending i (turn .before .loop .place) (omega arith) (omega arith)) }
 
 returns-2 : tie.Need-returns-2 Inv-loop μ-loop
 returns-2 c =
     let inv = c .before .loop .inv in
-    record { within = inv .0; lower = inv .1; others = λ i h l. absurd (omega arith) }
+    record { within = inv .within; lower = inv .lower; others = λ i h l. absurd (omega arith) }
 
-pub skip-below-spec : {M : Type 1} → statement M
-skip-below-spec =
+pub lower-bound-from-spec : {M : Type 1} → statement M
+lower-bound-from-spec =
     tie.close
     (tie.spec
     Inv-loop

@@ -6,17 +6,13 @@ use lib.ListN.{length, getD}
 use borrow.Author.Needs.{needs}
 use borrow.Author.Tests.{ltb-true, leb-true}
 use Rattle.searching.specs.Search.{wordAt}
-use Rattle.searching.proofs.WordSearch.{word-inside, splits-after}
-use Rattle.searching.proofs.search.first_not_below.Statement.{statement}
-use Rattle.searching.proofs.search.first_not_below.Tie as tie
+use Rattle.searching.proofs.WordSearch.{word-inside, lower-bound-at}
+use Rattle.searching.proofs.search.guessed_lower_bound.Statement.{statement}
+use Rattle.searching.proofs.search.guessed_lower_bound.Tie as tie
 
--- each of the n words stands in the slice
-inside : {i : ℕ} (c : tie.Start) → i < c .args .n → c .args .base + c .args .stride * i < length (c .args .words .now)
-inside c h = word-inside (c .args .base) (c .args .stride) (c .pre .0) h (c .pre .1)
-
--- so does the one before the place that is tried
+-- the word before the place that is tried stands in the slice
 before-inside : {i : ℕ} (c : tie.Start) → i < c .args .n → 0 < i → c .args .base + c .args .stride * (i - 1) < length (c .args .words .now)
-before-inside c h some = inside c (omega arith)
+before-inside c h some = word-inside (c .pre) (omega arith)
 
 returns : tie.Need-returns
 returns c = search needs
@@ -25,14 +21,14 @@ mul-first : tie.Need-mul-first
 mul-first c = search needs
 
 shared-slice-read-first : tie.Need-shared-slice-read-first
-shared-slice-read-first c = omega (arith, inside {i = 0} (c .before .before .before) (omega arith))
+shared-slice-read-first c = omega (arith, word-inside {i = 0} (c .before .before .before .pre) (omega arith))
 
 returns-2 : tie.Need-returns-2
 returns-2 c =
     let start = c .before .before .before .before in
     let a = start .args in
     let first : wordAt (a .words .now) (a .base) (a .stride) 0 ≡ getD (a .words .now) (a .base) 0 = ap (λ (p : ℕ). getD (a .words .now) p 0) (omega arith) in
-    splits-after _ _ _ (start .pre .2) (omega arith) (λ l. absurd (omega arith)) (omega arith)
+    lower-bound-at _ _ _ (start .pre .ascending) (omega arith) (λ l. absurd (omega arith)) (omega arith)
 
 sub-guess : tie.Need-sub-guess
 sub-guess c = search needs
@@ -56,30 +52,30 @@ shared-slice-read-if4 : tie.Need-shared-slice-read-if4
 shared-slice-read-if4 c = before-inside (c .before .before .before .before .before .before) (c .before .if3 .taken) (omega arith)
 
 mul-if5 : tie.Need-mul-if5
-mul-if5 c = omega (arith, inside (c .before .before .before .before .before .before .before) (c .before .before .if3 .taken))
+mul-if5 c = omega (arith, word-inside (c .before .before .before .before .before .before .before .pre) (c .before .before .if3 .taken))
 
 add-if5 : tie.Need-add-if5
-add-if5 c = omega (arith, inside (c .before .before .before .before .before .before .before) (c .before .before .if3 .taken))
+add-if5 c = omega (arith, word-inside (c .before .before .before .before .before .before .before .pre) (c .before .before .if3 .taken))
 
 mul-if5-2 : tie.Need-mul-if5-2
-mul-if5-2 c = omega (arith, inside (c .before .before .before .before .before .before .before) (c .before .before .if3 .taken))
+mul-if5-2 c = omega (arith, word-inside (c .before .before .before .before .before .before .before .pre) (c .before .before .if3 .taken))
 
 shared-slice-read-if5 : tie.Need-shared-slice-read-if5
-shared-slice-read-if5 c = inside (c .before .before .before .before .before .before .before .before) (c .before .before .before .if3 .taken)
+shared-slice-read-if5 c = word-inside (c .before .before .before .before .before .before .before .before .pre) (c .before .before .before .if3 .taken)
 
 returns-3 : tie.Need-returns-3
 returns-3 c =
     let guessed = c .before .before .before .before in
-    splits-after _ _ _ (guessed .before .before .before .before .before .pre .2) (guessed .if3 .taken) (λ _. ltb-true _ _ (c .before .before .if4 .taken)) (leb-true _ _ (c .if5 .taken))
+    lower-bound-at _ _ _ (guessed .before .before .before .before .before .pre .ascending) (guessed .if3 .taken) (λ _. ltb-true _ _ (c .before .before .if4 .taken)) (leb-true _ _ (c .if5 .taken))
 
-words-below-requires : tie.Need-words-below-requires
-words-below-requires c κs = search needs
+lower-bound-requires : tie.Need-lower-bound-requires
+lower-bound-requires c κs = search needs
 
 returns-4 : tie.Need-returns-4
-returns-4 c = c .words-below .ensures
+returns-4 c = c .lower-bound .ensures
 
-pub first-not-below-spec : {M : Type 1} → statement M
-first-not-below-spec =
+pub guessed-lower-bound-spec : {M : Type 1} → statement M
+guessed-lower-bound-spec =
     tie.close
     (tie.spec
     returns
@@ -98,5 +94,5 @@ first-not-below-spec =
     mul-if5-2
     shared-slice-read-if5
     returns-3
-    words-below-requires
+    lower-bound-requires
     returns-4)

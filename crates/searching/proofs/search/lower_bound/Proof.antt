@@ -1,11 +1,11 @@
--- The invariant of `words_below`: the words before `low` are below the value, and those from `high` on are not.
+-- The invariant of `lower_bound`: the words before `low` are below the value, and those from `high` on are not.
 use Prim.Native.Nat.{ℕ, _+_, _*_, _-_, _/_, _≤_, _<_}
 use native.Mathlib.Omega.{arith}
 use lib.ListN.{length}
 use Rattle.searching.specs.Search.{wordAt}
 use Rattle.searching.proofs.WordSearch.{word-inside}
-use Rattle.searching.proofs.search.words_below.Statement.{statement}
-use Rattle.searching.proofs.search.words_below.Tie as tie
+use Rattle.searching.proofs.search.lower_bound.Statement.{statement}
+use Rattle.searching.proofs.search.lower_bound.Tie as tie
 
 abbrev Inv-loop : tie.InvT-loop
 Inv-loop words base stride n value low₀ high₀ low high =
@@ -22,9 +22,7 @@ middle c = let l = c .before .loop in l .low + (l .high - l .low) / 2
 
 -- the word there stands in the slice
 inside : (c : tie.In-loop Inv-loop μ-loop) → let g = c .before .before .args in g .base + g .stride * middle c < length (g .words .now)
-inside c =
-    let start = c .before .before in
-    word-inside (start .args .base) (start .args .stride) (start .pre .0) (omega arith) (start .pre .1)
+inside c = word-inside (c .before .before .pre) (omega arith)
 
 loop-holds : tie.Need-loop-holds Inv-loop μ-loop
 loop-holds c = (omega arith, omega arith, λ i h. absurd (omega arith), λ i h l. absurd (omega arith))
@@ -57,7 +55,7 @@ loop-less c = omega arith
 loop-again : tie.Need-loop-again Inv-loop μ-loop
 loop-again c =
     let turn = c .before .before in
-    let ascending = turn .before .before .pre .2 in
+    let ascending = turn .before .before .pre .ascending in
     (omega arith, omega arith, λ i h. omega (arith, ascending i (middle turn) (omega arith) (omega arith)), turn .before .loop .inv .3)
 
 loop-less-2 : tie.Need-loop-less-2 Inv-loop μ-loop
@@ -67,7 +65,7 @@ loop-less-2 c = omega arith
 loop-again-2 : tie.Need-loop-again-2 Inv-loop μ-loop
 loop-again-2 c =
     let turn = c .before .before in
-    let ascending = turn .before .before .pre .2 in
+    let ascending = turn .before .before .pre .ascending in
     (omega arith, omega arith, turn .before .loop .inv .2, λ i h l. omega (arith, ascending (middle turn) i h l))
 
 returns : tie.Need-returns Inv-loop μ-loop
@@ -75,8 +73,8 @@ returns c =
     let inv = c .before .loop .inv in
     record { within = omega arith; lower = inv .2; others = λ i h l. inv .3 i (omega arith) l }
 
-pub words-below-spec : {M : Type 1} → statement M
-words-below-spec =
+pub lower-bound-spec : {M : Type 1} → statement M
+lower-bound-spec =
     tie.close
     (tie.spec
     Inv-loop
