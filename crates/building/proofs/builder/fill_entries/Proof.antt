@@ -9,6 +9,7 @@ use borrow.Author.Needs.{needs}
 use Rattle.model.specs.Site.{mostPredicates}
 use Rattle.model.specs.Store.{semiJoins, vpEntryAt}
 use Rattle.building.specs.Image.{imageWords}
+use Rattle.tables.specs.LeftRows.{leftRows}
 use Rattle.tables.specs.SiteWords.{siteIn}
 use Rattle.tables.proofs.Images.{mostSemiJoins, few-predicates, few-semi-joins, stored-start-limit, entries-inside}
 use Rattle.tables.proofs.Entries.{Counted, counted-stored, counted-of}
@@ -63,6 +64,7 @@ counted : (c : tie.After-count-semi-join Inv-loop μ-loop)
     → let l = c .before .before .before .before .before in
     let a = l .before .before .args in
     Counted (siteIn (a .count) (a .image .now)) (l .loop .x) (c .count-semi-join .result) (c .before .before .operands-at .result .rows)
+unfolding leftRows
 counted c =
     let l = c .before .before .before .before .before in
     let o = c .before .before .operands-at .ensures in

@@ -10,6 +10,7 @@ use mir.Facts.{fits-widen}
 use borrow.Author.Needs.{needs}
 use Rattle.model.specs.Site.{mostPredicates}
 use Rattle.model.specs.Store.{isStoredTable, semiJoins, vpEntryAt}
+use Rattle.tables.specs.LeftRows.{leftRows}
 use Rattle.tables.specs.SiteWords.{siteIn, reducedAt}
 use Rattle.tables.proofs.Images.{mostSemiJoins, few-predicates, few-semi-joins, entries-inside}
 use Rattle.tables.proofs.Entries.{Counted, counted-stored, counted-of}
@@ -91,6 +92,7 @@ is-stored-requires c κs =
     (c .before .before .before .before .before .before .pre .0 .1, n .few, n .full-few)
 
 write-semi-join-requires : tie.Need-write-semi-join-requires Inv-loop μ-loop
+unfolding leftRows
 write-semi-join-requires c κs =
     let o = c .before .before .before .before .operands-at .ensures in
     let turn = c .before .before .before .before .before in
@@ -106,6 +108,7 @@ loop-less : tie.Need-loop-less Inv-loop μ-loop
 loop-less c = search needs
 
 loop-again : tie.Need-loop-again Inv-loop μ-loop
+unfolding leftRows
 loop-again c =
     let o = c .before .before .before .operands-at .ensures in
     let turn = c .before .before .before .before in

@@ -6,7 +6,8 @@ use mathlib.Core.Bool.{false}
 use lib.ListN.{length, length-append}
 use borrow.Author.Needs.{needs}
 use Rattle.model.specs.Tables.{semiJoin}
-use Rattle.tables.proofs.Partners.{hasPartner, partner-found, no-partner-yet, leftOf, row-not-left, row-left}
+use Rattle.tables.specs.LeftRows.{leftRows}
+use Rattle.tables.proofs.Partners.{hasPartner, partner-found, no-partner-yet, row-not-left, row-left}
 use Rattle.reducing.proofs.semi_join_count.count_semi_join.Statement.{statement}
 use Rattle.reducing.proofs.semi_join_count.count_semi_join.Tie as tie
 
@@ -17,13 +18,13 @@ abbrev μ-loop : tie.MeasureT-loop
 μ-loop w p m own q n other kept₀ i row value j₀ kept j = n - j
 
 abbrev Inv-rows : tie.InvT-rows
-Inv-rows w p m own q n other kept₀ i₀ kept i = (i ≤ m) × (kept ≤ i) × (kept ≡ length (leftOf w p i own q n other))
+Inv-rows w p m own q n other kept₀ i₀ kept i = (i ≤ m) × (kept ≤ i) × (kept ≡ length (leftRows w p i own q n other))
 
 abbrev μ-rows : tie.MeasureT-rows
 μ-rows w p m own q n other kept₀ i₀ kept i = m - i
 
 rows-holds : tie.Need-rows-holds Inv-loop μ-loop Inv-rows μ-rows
-unfolding leftOf semiJoin
+unfolding leftRows semiJoin
 rows-holds c = (search needs, search needs, refl)
 
 add-i : tie.Need-add-i Inv-loop μ-loop Inv-rows μ-rows
@@ -103,7 +104,7 @@ rows-again-2 c =
     (search needs, search needs, rw (inner .loop .inv .1, row-left _ _ _ _ _ _ _ found (omega arith), length-append) (omega arith))
 
 returns : tie.Need-returns Inv-loop μ-loop Inv-rows μ-rows
-unfolding leftOf
+unfolding leftRows
 returns c =
     let all : c .before .rows .i ≡ c .before .before .args .m = omega arith in
     rw all at (c .before .rows .inv .2)

@@ -7,7 +7,8 @@ use lib.ListN.{length, length-set}
 use borrow.Author.Needs.{needs}
 use Rattle.model.specs.Tables.{semiJoin}
 use Rattle.model.proofs.Rows.{Written, none-written, length-written, row-written}
-use Rattle.tables.proofs.Partners.{hasPartner, partner-found, no-partner-yet, leftOf, row-not-left, row-left, more-left}
+use Rattle.tables.specs.LeftRows.{leftRows}
+use Rattle.tables.proofs.Partners.{hasPartner, partner-found, no-partner-yet, row-not-left, row-left, more-left}
 use Rattle.reducing.proofs.semi_join_write.write_semi_join.Statement.{statement}
 use Rattle.reducing.proofs.semi_join_write.write_semi_join.Tie as tie
 
@@ -20,7 +21,7 @@ abbrev μ-loop : tie.MeasureT-loop
 
 abbrev Inv-rows : tie.InvT-rows
 Inv-rows w p m own q n other out₀ to next₀ i₀ out next i =
-    (i ≤ m) × Written out₀ to (leftOf w p i own q n other) out next
+    (i ≤ m) × Written out₀ to (leftRows w p i own q n other) out next
 
 abbrev μ-rows : tie.MeasureT-rows
 μ-rows w p m own q n other out₀ to next₀ i₀ out next i = m - i
@@ -40,7 +41,7 @@ room : (c : tie.Then1 Inv-loop μ-loop Inv-rows μ-rows) →
     let inner = c .before .before .before in
     let args = inner .before .before .before .before .args in
     (inner .loop .next + 2 ≤ length (args .out .now)) × (length (inner .loop .out) ≡ length (args .out .now))
-unfolding leftOf
+unfolding leftRows
 room c =
     let inner = c .before .before .before in
     let outer = inner .before .before .before in (
@@ -49,7 +50,7 @@ room c =
     )
 
 rows-holds : tie.Need-rows-holds Inv-loop μ-loop Inv-rows μ-rows
-unfolding leftOf semiJoin
+unfolding leftRows semiJoin
 rows-holds c = (search needs, none-written _ _)
 
 add-i : tie.Need-add-i Inv-loop μ-loop Inv-rows μ-rows
@@ -174,7 +175,7 @@ same-length : tie.Need-same-length Inv-loop μ-loop Inv-rows μ-rows
 same-length c = length-written (c .before .rows .inv .1)
 
 returns : tie.Need-returns Inv-loop μ-loop Inv-rows μ-rows
-unfolding leftOf
+unfolding leftRows
 returns c =
     let all : c .before .rows .i ≡ c .before .before .args .m = omega arith in
     let x = rw all at (c .before .rows .inv .1) in
