@@ -83,9 +83,9 @@ place-absent site p e = absent-from 0 site p e
 
 -- ---- question 10
 
-pub not-passed : (w : List ℕ) → isStoreOf (decoded w) w ≡ false → storeOf w ≡ none
+pub not-validated : (w : List ℕ) → isStoreOf (decoded w) w ≡ false → storeOf w ≡ none
 unfolding storeOf
-not-passed w e = rw e refl
+not-validated w e = rw e refl
 
 -- the entry of a semi-join of p predicates stands before the rows
 join-before-rows : (p i j k : ℕ) → i < p → j < p → k < kindCount → semiJoinEntryAt p i j k + 2 ≤ rowsStart p
@@ -104,16 +104,16 @@ module _ (w : List ℕ) (validated : Validated w) where
   held : Holds w (thresholdOf w) (siteOf w)
   held = store-holds w validated
 
-  pub passed-store : storeOf w ≡ some (decoded w)
+  pub validated-store : storeOf w ≡ some (decoded w)
   unfolding storeOf
-  passed-store = rw validated refl
+  validated-store = rw validated refl
 
-  pub passed-site : isSite (siteOf w) ≡ true
-  passed-site = held .proper
+  pub validated-site : isSite (siteOf w) ≡ true
+  validated-site = held .proper
 
-  pub passed-threshold : decoded w .threshold ≤ mostThreshold
+  pub validated-threshold : decoded w .threshold ≤ mostThreshold
   unfolding decoded
-  passed-threshold = held .threshold
+  validated-threshold = held .threshold
 
   -- ---- what is read at each place
 
@@ -125,7 +125,7 @@ module _ (w : List ℕ) (validated : Validated w) where
   predicate-count = store-predicates held
 
   few-predicates : getD w 0 0 ≤ mostPredicates
-  few-predicates = rw predicate-count (proper (siteOf w) passed-site .predicate-limit)
+  few-predicates = rw predicate-count (proper (siteOf w) validated-site .predicate-limit)
 
   front-laid : rowsStart (length (siteOf w)) ≤ length (layout (thresholdOf w) (siteOf w))
   front-laid = let e = length-layout (thresholdOf w) (siteOf w) in omega arith
