@@ -5,8 +5,8 @@ use native.Mathlib.Omega.{arith}
 use mathlib.Core.Path.{_≡_, refl, sym, ap, _∙_}
 use mathlib.Core.Logic.{inl, inr}
 use mathlib.Core.Bool.{Bool, true, false, cond}
-use mathlib.Core.List.{List, [], _++_, append-nil}
-use lib.ListN.{length, getD, take, drop, set, length-append, take-append-drop}
+use mathlib.Core.List.{List, [], _∷_, _++_, append-nil}
+use lib.ListN.{length, getD, take, drop, length-append, take-append-drop}
 use lib.Seq.{length-take-le, take-all, sets, length-sets}
 use Rattle.model.specs.Site.{Row, mostRows}
 use Rattle.model.specs.Tables.{kindCount}
@@ -15,7 +15,7 @@ use Rattle.model.proofs.Blocks.{element-block, getD-block, head-block, concatMa
 use Rattle.model.proofs.StoreLayout.{length-table, entry-block, semiJoinEntry, semi-join-entries, layout-used}
 use Rattle.tables.specs.SiteWords.{siteIn, ImageOf, noReduced, reducedAt, CountsIn}
 use Rattle.tables.proofs.Reduced.{length-entries-of, entries-more, stored-words-more, take-more, length-all-of}
-use Rattle.model.proofs.Setting.{sets-append, sets-two, getD-sets, sets-block}
+use Rattle.model.proofs.Setting.{sets-append, getD-sets, sets-block}
 use Rattle.tables.proofs.Images.{image-kept, few-predicates, few-semi-joins, entries-inside}
 
 -- ---- one semi-join more
@@ -51,14 +51,14 @@ filled-none t at first xs image = record { written = refl; used = omega arith; n
 
 pub filled-more : {t at first : ℕ} {xs : List Reduced} {image₀ image : List ℕ} {here x : ℕ} → Filled t at first xs image₀ image here x → x < length xs
     → (b : Bool) → b ≡ isStoredTable t (getD xs x noReduced) → (n : ℕ) → n ≡ length (getD xs x noReduced .rows) → n ≤ mostRows
-    → Filled t at first xs image₀ (set (set image (at + 2 * x) n) (at + 2 * x + 1) (cond b here 0)) (cond b (here + 2 * n) here) (x + 1)
+    → Filled t at first xs image₀ (sets image (at + 2 * x) (n ∷ cond b here 0 ∷ [])) (cond b (here + 2 * n) here) (x + 1)
 filled-more {t} {at} {first} {xs} {image₀} {image} {here} {x} f h b e n counted few =
     let done = take x xs in
     let es = semiJoinEntries t first done in
     let r = getD xs x noReduced in
     let place : at + 2 * x ≡ at + length es = omega (arith, length-entries-of t first done, length-take-le x xs (omega arith)) in
     record {
-      written = rw (take-more xs x h, entries-more t first done r, f .written, place, counted, e, f .used) (sets-two image₀ at es _ _);
+      written = rw (take-more xs x h, entries-more t first done r, f .written, place, counted, e, f .used) (sym (sets-append image₀ at es _));
       used = rw counted (used-take t xs x h b e first here (f .used));
       near = go b;
     }
@@ -66,6 +66,10 @@ filled-more {t} {at} {first} {xs} {image₀} {image} {here} {x} f h b e n counte
     go : (b : Bool) → cond b (here + 2 * n) here ≤ first + 2 * mostRows * (x + 1)
     go true = omega arith
     go false = omega arith
+
+pub filled-length : {t at first : ℕ} {xs : List Reduced} {image₀ image : List ℕ} {here x : ℕ} → Filled t at first xs image₀ image here x
+    → length image ≡ length image₀
+filled-length f = ap length (f .written) ∙ simp length-sets
 
 -- the image's semi-joins
 module _ {count : ℕ} {image₀ : List ℕ} (o : ImageOf count image₀) where

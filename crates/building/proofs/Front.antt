@@ -1,5 +1,5 @@
 -- The front of a store: where it ends, how it is completed in the image of the site, and the store that it is the front of.
-use Prim.Native.Nat.{ℕ, suc, _+_, _*_, _^_, _≤_, _<_}
+use Prim.Native.Nat.{ℕ, suc, _+_, _-_, _*_, _^_, _≤_, _<_}
 use native.Mathlib.Nat.{zero-add}
 use native.Mathlib.Omega.{arith}
 use mathlib.Core.Path.{_≡_, sym, ap, _∙_, subst}
@@ -31,18 +31,18 @@ last-end here t (u ∷ us) =
     rw (start, count) (last-end (here + 2 * length (t .rows)) u us ∙ omega arith)
 
 pub last-entry : {count : ℕ} {image : List ℕ} → ImageOf count image → (count ≡ 0 → ⊥)
-    → getD image (3 * count + 2) 0 + 2 * getD image (3 * count + 1) 0 ≡ storedStart (siteIn count image)
+    → getD image (vpEntryAt (count - 1) + 2) 0 + 2 * getD image (vpEntryAt (count - 1) + 1) 0 ≡ storedStart (siteIn count image)
 last-entry {count} {image} o some =
     go (siteIn count image) (o .predicates) (part-block image 3 (3 * length (siteIn count image)) (omega (arith, o .long)) (o .holds .entries))
   where
     go : (site : Site) → length site ≡ count → Block image 3 (vpEntries (rowsStart (length site)) (declarations site))
-        → getD image (3 * count + 2) 0 + 2 * getD image (3 * count + 1) 0 ≡ storedStart site
+        → getD image (vpEntryAt (count - 1) + 2) 0 + 2 * getD image (vpEntryAt (count - 1) + 1) 0 ≡ storedStart site
     go [] e b = absurd (some (sym e))
     go (t ∷ ts) e b =
         let here = rowsStart (length (t ∷ ts)) in
         let long = length-vp-entries here (t ∷ ts) in
-        let start : 3 * count + 2 ≡ 3 + (3 * length ts + 2) = omega arith in
-        let rows : 3 * count + 1 ≡ 3 + (3 * length ts + 1) = omega arith in
+        let start : vpEntryAt (count - 1) + 2 ≡ 3 + (3 * length ts + 2) = omega arith in
+        let rows : vpEntryAt (count - 1) + 1 ≡ 3 + (3 * length ts + 1) = omega arith in
         rw (start, rows, getD-block b (3 * length ts + 2) 0 (omega arith), getD-block b (3 * length ts + 1) 0 (omega arith)) (last-end here t ts)
 
 -- ---- how many words a store has

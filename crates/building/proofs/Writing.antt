@@ -1,10 +1,9 @@
 -- Words that are written one behind the other.
 use Prim.Native.Nat.{ℕ, _+_, _*_}
-use native.Mathlib.Numerals.{add-one, add-two}
 use native.Mathlib.Omega.{arith}
 use mathlib.Core.Path.{_≡_, refl}
 use mathlib.Core.List.{List, [], _∷_, _++_, append-nil}
-use lib.ListN.{length, set}
+use lib.ListN.{length}
 use lib.Seq.{sets}
 use Rattle.model.specs.Lists.{sum}
 use Rattle.model.specs.Site.{Table, Site, rowTotal}
@@ -23,10 +22,10 @@ length-declared here (d ∷ ds) = let e = length-declared (here + 2 * d .1) ds i
 
 -- an entry behind those of the declarations done
 pub declaration-written : (image₀ image : List ℕ) (here : ℕ) (done : List Declaration) (d : Declaration) → image ≡ sets image₀ 3 (vpEntries here done)
-    → set (set (set image (vpEntryAt (length done)) (d .0)) (vpEntryAt (length done) + 1) (d .1)) (vpEntryAt (length done) + 2) (here + 2 * sum (λ d. d .1) done)
+    → sets image (vpEntryAt (length done)) (d .0 ∷ d .1 ∷ (here + 2 * sum (λ d. d .1) done) ∷ [])
     ≡ sets image₀ 3 (vpEntries here (done ++ d ∷ []))
 declaration-written image₀ image here done d e =
-    rw (e, declared-snoc here done d, sets-append image₀ 3 (vpEntries here done) (d .0 ∷ d .1 ∷ (here + 2 * sum (λ d. d .1) done) ∷ []), length-declared here done, add-one, add-two) refl
+    rw (e, declared-snoc here done d, sets-append image₀ 3 (vpEntries here done) (d .0 ∷ d .1 ∷ (here + 2 * sum (λ d. d .1) done) ∷ []), length-declared here done) refl
 
 -- ---- tables
 

@@ -6,7 +6,6 @@ ghost use Rattle.model.specs.Tables.{mostThreshold};
 ghost use Rattle.model.specs.Store.{semiJoins, semiJoinEntries, storedStart, storedWords, layout, vpEntryAt};
 ghost use Rattle.model.specs.Calls.{outcome, filled, build as buildOutcome};
 ghost use Rattle.tables.specs.SiteWords.{siteIn, ImageOf, CountsIn};
-use crate::site_reader::IMAGE_WORDS;
 use crate::site_reader::SiteRead;
 use crate::site_reader::read_site;
 use model::answer::Answer;
@@ -15,7 +14,11 @@ use reducing::semi_join_write::write_semi_join;
 use tables::copying::copy_words;
 use tables::kinds::KINDS;
 use tables::kinds::is_stored;
+use tables::layout::IMAGE_WORDS;
+use tables::layout::put_semi_join_entry;
 use tables::layout::rows_start;
+use tables::layout::semi_join_entry;
+use tables::layout::table_entry;
 use tables::limits::MOST_THRESHOLD;
 use tables::operands::operands_at;
 
@@ -27,10 +30,8 @@ fn stored_start(image: &[u32], count: usize) -> usize
     if count == 0 {
         return rows_start(0);
     }
-    let last = 3 * count;
-    let start = image[last + 2] as usize;
-    let rows = image[last + 1] as usize;
-    start + 2 * rows
+    let last = table_entry(image, count - 1);
+    last.start + 2 * last.rows
 }
 
 // The entries of the semi-joins: each row count, and the start of each stored table, the first at `first`. Gives the count of words used.
@@ -43,14 +44,12 @@ fn fill_entries(t: usize, count: usize, image: &mut [u32], first: usize) -> usiz
     for x in 0..count * (count * KINDS) {
         let o = operands_at(image, count, x);
         let rows = o.rows;
-        let kept = count_semi_join(image, o.start, rows, o.own, o.against, o.partners, o.other);
-        let entry = 3 + 3 * count + 2 * x;
-        image[entry] = kept as u32;
-        if is_stored(t, kept, rows) {
-            image[entry + 1] = here as u32;
-            here += 2 * kept;
+        let left = count_semi_join(image, o);
+        if is_stored(t, left, rows) {
+            put_semi_join_entry(image, o.entry, left as u32, here as u32);
+            here += 2 * left;
         } else {
-            image[entry + 1] = 0;
+            put_semi_join_entry(image, o.entry, left as u32, 0);
         }
     }
     here
@@ -65,19 +64,9 @@ fn write_stored(t: usize, count: usize, image: &[u32], store: &mut [u32], first:
     let mut next = first;
     for x in 0..count * (count * KINDS) {
         let o = operands_at(image, count, x);
-        let kept = image[3 + 3 * count + 2 * x] as usize;
-        if is_stored(t, kept, o.rows) {
-            next = write_semi_join(
-                image,
-                o.start,
-                o.rows,
-                o.own,
-                o.against,
-                o.partners,
-                o.other,
-                store,
-                next,
-            );
+        let entry = semi_join_entry(image, o.entry);
+        if is_stored(t, entry.rows, o.rows) {
+            next = write_semi_join(image, o, store, next);
         }
     }
 }

@@ -9,16 +9,15 @@ ghost use Rattle.model.specs.SiteFile.{declaration, row, tables, readSite};
 ghost use Rattle.model.specs.Store.{rowsStart, tableWords, vpWords, vpEntries};
 ghost use Rattle.tables.specs.SiteWords.{declaredIn, declaredRows};
 ghost use Rattle.building.specs.Image.{imageWords, TakenAs, DeclaredIn, SiteReadAs};
+use tables::layout::put_table_entry;
 use tables::layout::rows_start;
+use tables::layout::table_entry;
 use tables::limits::MOST_PREDICATES;
 use tables::limits::MOST_ROWS;
 use tables::limits::MOST_TERM;
 use tables::number::Number;
 use tables::number::read_number;
 use tables::row_order::row_before;
-
-// The words of an image: the front of a store, up to where the stored tables' rows would begin, for the largest site.
-pub const IMAGE_WORDS: usize = 3635;
 
 // How far bytes were taken, or the refusal's number.
 pub enum Taken {
@@ -52,9 +51,7 @@ pub fn read_declarations(s: &[u8], at: usize, count: usize, image: &mut [u32]) -
         if MOST_ROWS < total + n {
             return Taken::Refused(5);
         }
-        image[3 + 3 * i] = term;
-        image[3 + 3 * i + 1] = rows;
-        image[3 + 3 * i + 2] = here as u32;
+        put_table_entry(image, i, term, rows, here as u32);
         total += n;
         here += 2 * n;
         last = term;
@@ -104,7 +101,8 @@ pub fn read_tables(s: &[u8], at: usize, count: usize, image: &mut [u32]) -> Take
     let mut next = at;
     let mut to = rows_start(count);
     for i in 0..count {
-        let n = image[3 + 3 * i + 1] as usize;
+        let entry = table_entry(image, i);
+        let n = entry.rows;
         match read_rows(s, next, n, image, to) {
             Taken::Refused(number) => {
                 return Taken::Refused(number);

@@ -1,4 +1,4 @@
--- Look-ups in words that passed question 10: what is read at each place, and where a predicate is declared.
+-- Look-ups in validated words: what is read at each place, and where a predicate is declared.
 use Prim.Native.Nat.{ℕ, suc, _+_, _*_, _≤_, _<_}
 use native.Mathlib.Nat.{mul-le-mul-right}
 use native.Mathlib.Numerals.{add-one}
@@ -11,11 +11,12 @@ use lib.ListN.{length, getD, take, drop, length-take, length-drop, List·getD-ap
 use lib.Seq.{drop-cons, drop-length}
 use lib.Dec.{eqb, ltb}
 use borrow.Author.Tests.{ltb-true, eqb-true, eq-eqb, ne-eqb}
-use Rattle.model.specs.Site.{Row, Site, isSite, isDeclared, noTable, tableAt}
+use Rattle.model.specs.Site.{Row, Site, isSite, isDeclared, noTable, tableAt, mostPredicates}
 use Rattle.model.specs.Tables.{kindCount, isStored, mostThreshold}
 use Rattle.model.specs.Store.{tableWords, rowsStart, vpEntryAt, semiJoinEntryAt, layout, wordsUsed, Holds, decoded, isStoreOf, storeOf}
 use Rattle.model.proofs.Booleans.{and-cases}
 use Rattle.model.proofs.Membership.{at-place, into-any}
+use Rattle.model.proofs.Partition.{proper}
 use Rattle.model.proofs.Blocks.{Block, element-block, longer-block, drop-block, getD-block}
 use Rattle.model.proofs.StoreLayout.{length-table, entry-and-rows, vpEntry, vp-entries, leftAt, length-layout, vp-entries-block, vp-words-block, vp-entry, semi-join-entry}
 use Rattle.model.proofs.Stores.{rows-back}
@@ -82,12 +83,12 @@ place-absent site p e = absent-from 0 site p e
 
 -- ---- question 10
 
-pub not-passed : (w : List ℕ) → isStoreOf (decoded w) w ≡ false → storeOf w ≡ none
+pub not-validated : (w : List ℕ) → isStoreOf (decoded w) w ≡ false → storeOf w ≡ none
 unfolding storeOf
-not-passed w e = rw e refl
+not-validated w e = rw e refl
 
 -- the entry of a semi-join of p predicates stands before the rows
-join-before-rows : (p i j k : ℕ) → i < p → j < p → k < kindCount → semiJoinEntryAt p i j k + 1 < rowsStart p
+join-before-rows : (p i j k : ℕ) → i < p → j < p → k < kindCount → semiJoinEntryAt p i j k + 2 ≤ rowsStart p
 join-before-rows p i j k hi hj hk = let square : suc i * p ≤ p * p = mul-le-mul-right p hi in omega arith
 
 -- a table that is stored has rows
@@ -99,20 +100,20 @@ stored-some t n m e = ltb-true 0 n (and-cases (ltb 0 n) (ltb (1000 * n) (t * m))
 taken-inside : (l : List ℕ) (start n : ℕ) → 0 < n → length (take n (drop start l)) ≡ n → start ≤ length l
 taken-inside l start n some-words e = let taken = length-take n (drop start l) in let left = length-drop start l in omega arith
 
-module _ (w : List ℕ) (passed : Validated w) where
+module _ (w : List ℕ) (validated : Validated w) where
   held : Holds w (thresholdOf w) (siteOf w)
-  held = store-holds w passed
+  held = store-holds w validated
 
-  pub passed-store : storeOf w ≡ some (decoded w)
+  pub validated-store : storeOf w ≡ some (decoded w)
   unfolding storeOf
-  passed-store = rw passed refl
+  validated-store = rw validated refl
 
-  pub passed-site : isSite (siteOf w) ≡ true
-  passed-site = held .proper
+  pub validated-site : isSite (siteOf w) ≡ true
+  validated-site = held .proper
 
-  pub passed-threshold : decoded w .threshold ≤ mostThreshold
+  pub validated-threshold : decoded w .threshold ≤ mostThreshold
   unfolding decoded
-  passed-threshold = held .threshold
+  validated-threshold = held .threshold
 
   -- ---- what is read at each place
 
@@ -122,6 +123,9 @@ module _ (w : List ℕ) (passed : Validated w) where
 
   pub predicate-count : getD w 0 0 ≡ length (siteOf w)
   predicate-count = store-predicates held
+
+  few-predicates : getD w 0 0 ≤ mostPredicates
+  few-predicates = rw predicate-count (proper (siteOf w) validated-site .predicate-limit)
 
   front-laid : rowsStart (length (siteOf w)) ≤ length (layout (thresholdOf w) (siteOf w))
   front-laid = let e = length-layout (thresholdOf w) (siteOf w) in omega arith
@@ -143,8 +147,8 @@ module _ (w : List ℕ) (passed : Validated w) where
 
   -- the entry of the predicate at place i
   module _ (i : ℕ) (hi : i < length (siteOf w)) where
-    pub entry-inside : vpEntryAt i + 2 < length w
-    entry-inside = let e = predicate-count in omega (arith, front-inside)
+    pub entry-inside : (i < mostPredicates) × (vpEntryAt i + 3 ≤ length w)
+    entry-inside = let e = predicate-count in (omega (arith, few-predicates), omega (arith, front-inside))
 
     pub entry-term : getD w (vpEntryAt i) 0 ≡ tableAt (siteOf w) i .predicate
     entry-term = word (vpEntryAt i) (omega arith) ∙ vp-entry (thresholdOf w) (siteOf w) i hi .term
@@ -162,8 +166,11 @@ module _ (w : List ℕ) (passed : Validated w) where
 
     -- that of a semi-join against the predicate at place j
     module _ (j k : ℕ) (hj : j < length (siteOf w)) (hk : k < kindCount) where
-      pub join-inside : semiJoinEntryAt (getD w 0 0) i j k + 1 < length w
-      join-inside = let e = join-before-rows (getD w 0 0) i j k (rw predicate-count hi) (rw predicate-count hj) hk in omega (arith, front-inside)
+      pub join-among : (getD w 0 0 ≤ mostPredicates) × (i < getD w 0 0) × (j < getD w 0 0) × (k < kindCount)
+      join-among = (few-predicates, rw predicate-count hi, rw predicate-count hj, hk)
+
+      pub join-inside : semiJoinEntryAt (getD w 0 0) i j k + 2 ≤ length w
+      join-inside = omega (arith, front-inside, join-before-rows (getD w 0 0) i j k (join-among .1) (join-among .2) hk)
 
       pub join-rows : getD w (semiJoinEntryAt (getD w 0 0) i j k) 0 ≡ length (leftAt (siteOf w) i j k)
       join-rows =
@@ -182,5 +189,5 @@ module _ (w : List ℕ) (passed : Validated w) where
           semi-join-entry (thresholdOf w) (siteOf w) i j k hi hj hk .rows (rw (← threshold-word) at stored) in
           let some-words : 0 < 2 * length left = omega (arith, stored-some _ _ _ stored) in
           let before = taken-inside words start (2 * length left) some-words (ap length laid ∙ length-table left) in
-          let here : getD w place 0 ≡ start = word place (join-before-rows (length (siteOf w)) i j k hi hj hk) in
+          let here : getD w place 0 ≡ start = word place (omega (arith, join-before-rows (length (siteOf w)) i j k hi hj hk)) in
           rw (predicate-count, here) (rows-at left (part-block words start (2 * length left) before laid))

@@ -6,7 +6,9 @@ ghost use Rattle.model.specs.Site.{tableAt};
 ghost use Rattle.model.specs.Tables.{kindCount, kindAt, semiJoin, isStored};
 ghost use Rattle.model.specs.Store.{decoded};
 ghost use Rattle.catalog.specs.Lookups.{Validated, placeOf, RowsAt};
-use tables::kinds::KINDS;
+use tables::layout::semi_join_entry;
+use tables::layout::semi_join_entry_at;
+use tables::layout::table_entry;
 
 // The place of a predicate among the declared ones.
 pub enum Found {
@@ -21,7 +23,8 @@ pub fn predicate_place(w: &[u32], term: u32) -> Found
 {
     let count = w[0] as usize;
     for i in 0..count {
-        if w[3 + 3 * i] == term {
+        let entry = table_entry(w, i);
+        if entry.term == term {
             return Found::At(i);
         }
     }
@@ -41,7 +44,8 @@ pub fn table_rows(w: &[u32], i: usize) -> usize
     requires { ⌜ Validated (now w) × (i < length (decoded (now w) .site)) ⌝ }
     ensures { λ r. ⌜ r ≡ length (tableAt (decoded (now (w .entry)) .site) i .rows) ⌝ }
 {
-    w[3 + 3 * i + 1] as usize
+    let entry = table_entry(w, i);
+    entry.rows
 }
 
 // The rows that kind k of the predicate at place i against the one at place j leaves, stored or not.
@@ -50,7 +54,8 @@ pub fn semi_join_rows(w: &[u32], i: usize, j: usize, k: usize) -> usize
     ensures { λ r. ⌜ r ≡ length (semiJoin (kindAt k) (tableAt (decoded (now (w .entry)) .site) i .rows) (tableAt (decoded (now (w .entry)) .site) j .rows)) ⌝ }
 {
     let count = w[0] as usize;
-    w[3 + 3 * count + 2 * ((i * count + j) * KINDS + k)] as usize
+    let entry = semi_join_entry(w, semi_join_entry_at(count, i, j, k));
+    entry.rows
 }
 
 // Where the rows of the predicate at place i start.
@@ -59,7 +64,8 @@ pub fn table_start(w: &[u32], i: usize) -> usize
     ensures { λ r. ⌜ RowsAt (now (w .entry)) r (tableAt (decoded (now (w .entry)) .site) i .rows) ⌝ }
     ensures { λ r. ⌜ r < 4294967296 ⌝ }
 {
-    w[3 + 3 * i + 2] as usize
+    let entry = table_entry(w, i);
+    entry.start
 }
 
 // Where the rows start that kind k of the predicate at place i against the one at place j leaves, if they are stored.
@@ -70,5 +76,6 @@ pub fn semi_join_start(w: &[u32], i: usize, j: usize, k: usize) -> usize
     ensures { λ r. ⌜ r < 4294967296 ⌝ }
 {
     let count = w[0] as usize;
-    w[3 + 3 * count + 2 * ((i * count + j) * KINDS + k) + 1] as usize
+    let entry = semi_join_entry(w, semi_join_entry_at(count, i, j, k));
+    entry.start
 }

@@ -1,7 +1,6 @@
 -- A list in which a run of elements is set: what stands beside the run, and what in it.
 use Prim.Native.Nat.{ℕ, suc, _+_, _-_, _<_, _≤_}
 use native.Mathlib.Nat.{add-zero, zero-add}
-use native.Mathlib.Numerals.{add-one}
 use native.Mathlib.Omega.{arith}
 use mathlib.Core.Path.{_≡_, refl, sym, ap, _∙_}
 use mathlib.Core.List.{List, [], _∷_, _++_, append-assoc}
@@ -15,11 +14,6 @@ module _ {A : Type 0} where
   sets-append l i [] ys = rw add-zero
   sets-append l i (x ∷ xs) ys =
       sets-append (set l i x) (suc i) xs ys ∙ ap (λ (k : ℕ). sets (sets (set l i x) (suc i) xs) k ys) (omega arith)
-
-  -- two more elements, set behind a run
-  pub sets-two : (l : List A) (i : ℕ) (xs : List A) (x y : A)
-      → set (set (sets l i xs) (i + length xs) x) (i + length xs + 1) y ≡ sets l i (xs ++ (x ∷ y ∷ []))
-  sets-two l i xs x y = rw add-one (sym (sets-append l i xs (x ∷ y ∷ [])))
 
   -- what stands behind the run
   pub drop-sets : (l : List A) (i : ℕ) (vs : List A) (j : ℕ) → i + length vs ≤ j → drop j (sets l i vs) ≡ drop j l

@@ -13,7 +13,7 @@ use Rattle.model.specs.Calls.{either, withPlan, plan}
 use Rattle.model.specs.declared.answer.Answer.the-variants.{Refused, Plan as PlanAnswer}
 use Rattle.model.specs.declared.answer.Planned.{Planned}
 use Rattle.catalog.specs.Lookups.{Validated}
-use Rattle.catalog.proofs.Lookups.{not-passed, passed-store}
+use Rattle.catalog.proofs.Lookups.{not-validated, validated-store}
 use Rattle.patterns.specs.Members.{patternIn, PatternHolds}
 use Rattle.patterns.specs.Replies.{PatternReadAs, checkReply}
 use Rattle.patterns.specs.declared.pattern_reader.PatternRead.{PatternRead}
@@ -23,11 +23,11 @@ use Rattle.patterns.specs.declared.pattern_reader.PatternRead.{PatternRe
 module _ (words bytes : List ℕ) where
   pub no-store : isStoreOf (decoded words) words ≡ false → checkReply words bytes ≡ refused 10
   unfolding either
-  no-store e = rw (not-passed words e) refl
+  no-store e = rw (not-validated words e) refl
 
   pub store-passed : Validated words → checkReply words bytes ≡ readPattern (decoded words .site) bytes
   unfolding either
-  store-passed e = rw (passed-store words e) refl
+  store-passed e = rw (validated-store words e) refl
 
 -- by what the code has of it; a refusal's number is not 0
 module _ (words bytes : List ℕ) (r : PatternRead) (read : PatternReadAs (decoded words .site) (checkReply words bytes) r) where
@@ -57,8 +57,8 @@ module _ (words bytes : List ℕ) where
   plan-replied = go (isStoreOf (decoded words) words) refl
     where
       go : (b : Bool) → isStoreOf (decoded words) words ≡ b → plan words bytes ≡ planOf (checkReply words bytes)
-      go true e = rw (passed-store words e) refl
-      go false e = rw (not-passed words e) refl
+      go true e = rw (validated-store words e) refl
+      go false e = rw (not-validated words e) refl
 
   pub plan-refused : {n : ℕ} → checkReply words bytes ≡ refused n → plan words bytes ≡ withPlan (Refused n) []
   unfolding either

@@ -1,24 +1,21 @@
 ghost use mathlib.Core.Path.{_≡_};
 ghost use Prim.Native.Nat.{_<_, _≤_, _+_, _*_};
-ghost use lib.ListN.{length, drop};
-ghost use Rattle.model.specs.Tables.{semiJoin};
-ghost use Rattle.model.specs.Store.{rowsIn};
-ghost use Rattle.tables.specs.Columns.{kindOfColumns};
+ghost use lib.ListN.{length};
+ghost use Rattle.tables.specs.LeftRows.{leftOf};
+use tables::operands::Operands;
 
-// How many of the m rows at p have, in column `own`, a value that one of the n rows at q has in column `other`.
-pub fn count_semi_join(
-    w: &[u32],
-    p: usize,
-    m: usize,
-    own: usize,
-    q: usize,
-    n: usize,
-    other: usize,
-) -> usize
-    requires { ⌜ (p + 2 * m ≤ length (now w)) × (q + 2 * n ≤ length (now w)) × (own < 2) × (other < 2) ⌝ }
-    ensures { λ r. ⌜ r ≡ length (semiJoin (kindOfColumns own other) (rowsIn m (drop p (now (w .entry)))) (rowsIn n (drop q (now (w .entry))))) ⌝ }
+// How many rows the semi-join of some operands leaves: those with a partner, a row whose value in the other column is the same.
+pub fn count_semi_join(w: &[u32], o: Operands) -> usize
+    requires { ⌜ (o .start + 2 * o .rows ≤ length (now w)) × (o .against + 2 * o .partners ≤ length (now w)) × (o .own < 2) × (o .other < 2) ⌝ }
+    ensures { λ r. ⌜ r ≡ length (leftOf (now (w .entry)) o) ⌝ }
 {
-    let mut kept: usize = 0;
+    let p = o.start;
+    let m = o.rows;
+    let own = o.own;
+    let q = o.against;
+    let n = o.partners;
+    let other = o.other;
+    let mut left: usize = 0;
     let mut i: usize = 0;
     'rows: while i < m {
         // The place moves on first, so that a row that is continued is not met again.
@@ -29,11 +26,11 @@ pub fn count_semi_join(
         while j < n {
             let other_value = w[q + 2 * j + other];
             if other_value == value {
-                kept += 1;
+                left += 1;
                 continue 'rows;
             }
             j += 1;
         }
     }
-    kept
+    left
 }

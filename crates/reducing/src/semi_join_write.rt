@@ -1,28 +1,24 @@
 ghost use mathlib.Core.Path.{_≡_};
 ghost use Prim.Native.Nat.{_<_, _≤_, _+_, _*_};
-ghost use lib.ListN.{length, drop};
+ghost use lib.ListN.{length};
 ghost use lib.Seq.{sets};
-ghost use Rattle.model.specs.Tables.{semiJoin};
-ghost use Rattle.model.specs.Store.{rowsIn, tableWords};
-ghost use Rattle.tables.specs.Columns.{kindOfColumns};
+ghost use Rattle.model.specs.Store.{tableWords};
+ghost use Rattle.tables.specs.LeftRows.{leftOf};
+use tables::operands::Operands;
 
-// Writes the rows that are left, from `to` on, and gives the place after them.
-pub fn write_semi_join(
-    w: &[u32],
-    p: usize,
-    m: usize,
-    own: usize,
-    q: usize,
-    n: usize,
-    other: usize,
-    out: &mut [u32],
-    to: usize,
-) -> usize
-    requires { ⌜ (p + 2 * m ≤ length (now w)) × (q + 2 * n ≤ length (now w)) × (own < 2) × (other < 2) ⌝ }
-    requires { ⌜ to + 2 * length (semiJoin (kindOfColumns own other) (rowsIn m (drop p (now w))) (rowsIn n (drop q (now w)))) ≤ length (now out) ⌝ }
-    ensures { λ r. ⌜ r ≡ to + 2 * length (semiJoin (kindOfColumns own other) (rowsIn m (drop p (now (w .entry)))) (rowsIn n (drop q (now (w .entry))))) ⌝ }
-    ensures { λ _. ⌜ now (out .exit) ≡ sets (now (out .entry)) to (tableWords (semiJoin (kindOfColumns own other) (rowsIn m (drop p (now (w .entry)))) (rowsIn n (drop q (now (w .entry)))))) ⌝ }
+// Writes the rows that the semi-join of some operands leaves, from `to` on, and gives the place after them.
+pub fn write_semi_join(w: &[u32], o: Operands, out: &mut [u32], to: usize) -> usize
+    requires { ⌜ (o .start + 2 * o .rows ≤ length (now w)) × (o .against + 2 * o .partners ≤ length (now w)) × (o .own < 2) × (o .other < 2) ⌝ }
+    requires { ⌜ to + 2 * length (leftOf (now w) o) ≤ length (now out) ⌝ }
+    ensures { λ r. ⌜ r ≡ to + 2 * length (leftOf (now (w .entry)) o) ⌝ }
+    ensures { λ _. ⌜ now (out .exit) ≡ sets (now (out .entry)) to (tableWords (leftOf (now (w .entry)) o)) ⌝ }
 {
+    let p = o.start;
+    let m = o.rows;
+    let own = o.own;
+    let q = o.against;
+    let n = o.partners;
+    let other = o.other;
     let mut next = to;
     let mut i: usize = 0;
     'rows: while i < m {

@@ -23,7 +23,8 @@ use Rattle.searching.proofs.WordSearch.{word-found, before-first, behind-last}
 use Rattle.model.proofs.Rows.{rows-at}
 use Rattle.tables.specs.declared.layout.TableEntry.{TableEntry}
 use Rattle.tables.specs.Entries.{TableEntryAt}
-use Rattle.tables.proofs.Partners.{hasPartner, partner-found, at-column, leftOf, row-left, row-not-left}
+use Rattle.tables.specs.LeftRows.{leftRows}
+use Rattle.tables.proofs.Partners.{hasPartner, partner-found, at-column, row-left, row-not-left}
 use Rattle.statistics.specs.Compared.{areCompared}
 use Rattle.statistics.specs.Ranges.{isGapless, RangeOf, rangeAt, hasValue, ColumnRange, AllMeasured, apart, isReached, objectsReached}
 use Rattle.statistics.proofs.Partnered.{partner-of-value}
@@ -179,8 +180,8 @@ module _ (words ranges : List ℕ) (a b p m own q n other : ℕ) (own-column : o
       (sym (partner-of-value words p i own p m own own-column) ∙ partner-found words p i own p own own-column own-column i m h inside refl)
 
   -- of the first k rows none is left, if the ranges are apart
-  pub none-left : (getD ranges (a + 1) 0 < getD ranges b 0) ⊎ (getD ranges (b + 1) 0 < getD ranges a 0) → (k : ℕ) → k ≤ m → length (leftOf words p k own q n other) ≡ 0
-  unfolding leftOf semiJoin
+  pub none-left : (getD ranges (a + 1) 0 < getD ranges b 0) ⊎ (getD ranges (b + 1) 0 < getD ranges a 0) → (k : ℕ) → k ≤ m → length (leftRows words p k own q n other) ≡ 0
+  unfolding leftRows semiJoin
   none-left apart zero h = refl
   none-left apart (suc k) h = rw (← add-one k, row-not-left words p k own q n other (omega arith) (to-false _ no-partner)) (none-left apart k (omega arith))
     where
@@ -192,8 +193,8 @@ module _ (words ranges : List ℕ) (a b p m own q n other : ℕ) (own-column : o
 
   -- all are, if the one range is within the other, which has no gaps
   pub all-left : getD ranges (b + 2) 0 ≡ 1 → getD ranges b 0 ≤ getD ranges a 0 → getD ranges (a + 1) 0 ≤ getD ranges (b + 1) 0
-      → (k : ℕ) → k ≤ m → length (leftOf words p k own q n other) ≡ k
-  unfolding leftOf semiJoin
+      → (k : ℕ) → k ≤ m → length (leftRows words p k own q n other) ≡ k
+  unfolding leftRows semiJoin
   all-left whole low high zero h = refl
   all-left whole low high (suc k) h =
       let own-range = row-range k h in

@@ -12,6 +12,7 @@ use Rattle.model.proofs.Partition.{proper}
 use Rattle.model.proofs.Blocks.{head-block}
 use Rattle.model.proofs.StoreLayout.{leftAt, semi-join-block}
 use Rattle.model.proofs.Membership.{filter-fewer}
+use Rattle.tables.specs.LeftRows.{leftRows}
 use Rattle.tables.specs.SiteWords.{siteIn, ImageOf, noReduced, reducedAt, OperandsOf, TablesOf}
 use Rattle.tables.specs.declared.operands.Operands.{Operands}
 use Rattle.tables.proofs.Images.{table-in}
@@ -72,6 +73,7 @@ counted-stored c t = rw (c .left, c .full) refl
 pub operands-of : {count : ℕ} {image : List ℕ} → ImageOf count image → (p q k : ℕ) → p < count → q < count → k < kindCount
     → (r : Operands) → r .entry ≡ semiJoinEntryAt count p q k → r .own < 2 → r .other < 2 → TablesOf image p q k r
     → OperandsOf (siteIn count image) image (semiJoinPlace count p q k) r
+unfolding leftRows
 operands-of {count} {image} o p q k h l m r entry own other tables =
     let site = siteIn count image in
     let table = table-in o p h in

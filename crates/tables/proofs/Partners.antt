@@ -16,6 +16,7 @@ use Rattle.model.proofs.Booleans.{or-right}
 use Rattle.model.proofs.Membership.{any-append}
 use Rattle.model.proofs.Blocks.{Block}
 use Rattle.tables.specs.Columns.{columnOf, kindOfColumns}
+use Rattle.tables.specs.LeftRows.{leftRows}
 use Rattle.model.proofs.Rows.{rowAt, rows-at}
 use Rattle.model.proofs.FilteredRows.{row-filtered-out, row-filtered-in, more-filtered, filtered-block}
 
@@ -49,29 +50,25 @@ module _ (w : List ℕ) (p i own q other : ℕ) (own-column : own < 2) (other-co
 
 -- ---- the rows that are left
 
--- of the first i rows at p, by the n rows at q
-unfoldable pub leftOf : List ℕ → ℕ → ℕ → ℕ → ℕ → ℕ → ℕ → List Row
-leftOf w p i own q n other = semiJoin (kindOfColumns own other) (rowsIn i (drop p w)) (rowsIn n (drop q w))
-
 module _ (w : List ℕ) (p i own q n other : ℕ) where
   abbrev isPartnered : Row → Bool
   isPartnered r = any (arePartners (kindOfColumns own other) r) (rowsIn n (drop q w))
 
-  pub row-not-left : p + 2 * (i + 1) ≤ length w → hasPartner w p i own q n other ≡ false → leftOf w p (i + 1) own q n other ≡ leftOf w p i own q n other
-  unfolding leftOf hasPartner semiJoin
+  pub row-not-left : p + 2 * (i + 1) ≤ length w → hasPartner w p i own q n other ≡ false → leftRows w p (i + 1) own q n other ≡ leftRows w p i own q n other
+  unfolding leftRows hasPartner semiJoin
   row-not-left h e = row-filtered-out w p i isPartnered h e
 
   module _ (e : hasPartner w p i own q n other ≡ true) where
-    pub row-left : p + 2 * (i + 1) ≤ length w → leftOf w p (i + 1) own q n other ≡ leftOf w p i own q n other ++ rowAt w p i ∷ []
-    unfolding leftOf hasPartner semiJoin
+    pub row-left : p + 2 * (i + 1) ≤ length w → leftRows w p (i + 1) own q n other ≡ leftRows w p i own q n other ++ rowAt w p i ∷ []
+    unfolding leftRows hasPartner semiJoin
     row-left h = row-filtered-in w p i isPartnered e h
 
     -- it is left of all m rows too
-    pub more-left : (m : ℕ) → i < m → p + 2 * m ≤ length w → length (leftOf w p i own q n other) < length (leftOf w p m own q n other)
-    unfolding leftOf hasPartner semiJoin
+    pub more-left : (m : ℕ) → i < m → p + 2 * m ≤ length w → length (leftRows w p i own q n other) < length (leftRows w p m own q n other)
+    unfolding leftRows hasPartner semiJoin
     more-left m l h = more-filtered w p i isPartnered e m l h
 
     -- behind those that are left of the first i
-    pub left-block : (m : ℕ) → i < m → p + 2 * m ≤ length w → Block (leftOf w p m own q n other) (length (leftOf w p i own q n other)) (rowAt w p i ∷ [])
-    unfolding leftOf hasPartner semiJoin
+    pub left-block : (m : ℕ) → i < m → p + 2 * m ≤ length w → Block (leftRows w p m own q n other) (length (leftRows w p i own q n other)) (rowAt w p i ∷ [])
+    unfolding leftRows hasPartner semiJoin
     left-block m l h = filtered-block w p i isPartnered e m l h

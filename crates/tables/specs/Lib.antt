@@ -2,5 +2,6 @@
 pub mod NumberAt
 pub mod Columns
 pub mod Entries
+pub mod LeftRows
 pub mod SiteWords
 pub mod RowNumbers

@@ -7,9 +7,10 @@ use lib.ListN.{length, getD, take, drop}
 use Rattle.model.specs.Lists.{sameWords}
 use Rattle.model.specs.SiteFile.{Declaration, declaredTotal, declaredProper, declarations}
 use Rattle.model.specs.Site.{Site, isSite}
-use Rattle.model.specs.Tables.{semiJoin, kindAt, kindCount}
-use Rattle.model.specs.Store.{Reduced, semiJoins, rowsStart, rowsIn, tablesIn, storedStart, vpEntries, vpWords, vpEntryAt}
-use Rattle.tables.specs.Columns.{columnOf, kindOfColumns}
+use Rattle.model.specs.Tables.{kindAt, kindCount}
+use Rattle.model.specs.Store.{Reduced, semiJoins, rowsStart, tablesIn, storedStart, vpEntries, vpWords, vpEntryAt}
+use Rattle.tables.specs.Columns.{columnOf}
+use Rattle.tables.specs.LeftRows.{leftOf}
 use Rattle.tables.specs.declared.operands.Operands.{Operands}
 
 -- ---- the entries
@@ -61,8 +62,7 @@ pub record OperandsOf (site : Site) (image : List ℕ) (x : ℕ) (r : Operands) 
   pub own-column : r .own < 2
   pub partner-column : r .other < 2
   pub full : r .rows ≡ length (reducedAt site x .full)
-  pub left : semiJoin (kindOfColumns (r .own) (r .other)) (rowsIn (r .rows) (drop (r .start) image)) (rowsIn (r .partners) (drop (r .against) image))
-      ≡ reducedAt site x .rows
+  pub left : leftOf image r ≡ reducedAt site x .rows
 
 -- the operands are the tables of predicates p and q, as their entries have them, and the columns of kind k
 pub record TablesOf (image : List ℕ) (p q k : ℕ) (r : Operands) : Type 0 where

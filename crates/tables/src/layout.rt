@@ -8,6 +8,8 @@ ghost use Rattle.model.specs.Tables.{kindCount};
 ghost use Rattle.model.specs.Store.{vpEntryAt, semiJoinEntryAt, rowsStart};
 ghost use Rattle.tables.specs.Entries.{TableEntryAt, SemiJoinEntryAt};
 use crate::kinds::KINDS;
+use crate::limits::MOST_PREDICATES;
+use crate::limits::MOST_ROWS;
 
 // The layout of a store's words has its owner here: P, T and words used; an entry of three words for each predicate; an entry of two for
 // each p, each q, each kind; then rows. No other file computes where one of them stands.
@@ -35,6 +37,12 @@ pub fn rows_start(p: usize) -> usize
 {
     vp_entry_at(p) + 2 * (p * (p * KINDS))
 }
+
+// The words of an image: the front of a store, up to where the stored tables' rows would begin, for the largest site.
+pub const IMAGE_WORDS: usize = 3
+    + 3 * MOST_PREDICATES
+    + 2 * (MOST_PREDICATES * (MOST_PREDICATES * KINDS))
+    + 2 * MOST_ROWS;
 
 // The entry of a predicate: its term, its row count, and where its rows start.
 pub struct TableEntry {

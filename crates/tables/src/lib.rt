@@ -1,4 +1,5 @@
 // Numbers in bytes, and rows and the operands of semi-joins in words.
+pub mod bounds;
 pub mod copying;
 pub mod kinds;
 pub mod layout;

@@ -7,6 +7,7 @@ ghost use Rattle.model.specs.Numbers.{mostTerm, isTerm};
 ghost use Rattle.model.specs.Site.{rowBefore, rowsProper};
 ghost use Rattle.model.specs.Store.{rowsIn};
 ghost use Rattle.tables.specs.RowNumbers.{rowNumber};
+use crate::bounds::all_at_most;
 use crate::limits::MOST_TERM;
 
 // The row (s, o) comes before the row (t, p).
@@ -14,20 +15,6 @@ pub fn row_before(s: u32, o: u32, t: u32, p: u32) -> bool
     ensures { λ r. ⌜ r ≡ rowBefore (s, o) (t, p) ⌝ }
 {
     s < t || (s == t && o < p)
-}
-
-// Whether the n words at `start` are terms. None ends the walk, so that several are compared at once.
-fn are_terms(w: &[u32], start: usize, n: usize) -> bool
-    requires { ⌜ start + n ≤ length (now w) ⌝ }
-    ensures { λ r. ⌜ r ≡ all isTerm (take n (drop start (now (w .entry)))) ⌝ }
-{
-    let mut terms = true;
-    for i in 0..n {
-        if MOST_TERM < w[start + i] {
-            terms = false;
-        }
-    }
-    terms
 }
 
 // A row of terms as one number, of sixteen bits for each: the numbers are in the order of the rows.
@@ -62,5 +49,5 @@ pub fn rows_proper(w: &[u32], start: usize, n: usize) -> bool
     if n == 0 {
         return true;
     }
-    are_terms(w, start, 2 * n) && rows_ascend(w, start, n)
+    all_at_most(w, start, 2 * n, MOST_TERM) && rows_ascend(w, start, n)
 }

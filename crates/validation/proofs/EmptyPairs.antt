@@ -18,7 +18,7 @@ use Rattle.tables.specs.SiteWords.{siteIn, ImageOf, reducedAt}
 use Rattle.tables.proofs.Images.{entries-inside}
 use Rattle.tables.proofs.Proper.{word-passes}
 use Rattle.tables.proofs.Entries.{place-below, operands-of}
-use Rattle.tables.proofs.Partners.{leftOf}
+use Rattle.tables.specs.LeftRows.{leftRows}
 use Rattle.statistics.specs.Ranges.{AllMeasured, apart}
 use Rattle.statistics.proofs.ColumnRanges.{none-left}
 use Rattle.validation.specs.Joins.{emptyPair}
@@ -41,7 +41,7 @@ module _ {count : ℕ} {words : List ℕ} (ranges : List ℕ) (image : ImageOf c
   -- columns that are apart leave no row
   pub apart-none : (k own other : ℕ) → k < kindCount → (own < 2) × (columnOf own ≡ kindAt k .0) → (other < 2) × (columnOf other ≡ kindAt k .1)
       → apart ranges (6 * p + 3 * own) (6 * q + 3 * other) ≡ true → length (reducedAt (siteIn count words) (semiJoinPlace count p q k) .rows) ≡ 0
-  unfolding leftOf
+  unfolding leftRows
   apart-none k own other m mine theirs e =
       let o = operands-of image p q k h l m (record {
         entry = semiJoinEntryAt count p q k;

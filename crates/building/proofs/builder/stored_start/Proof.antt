@@ -1,9 +1,8 @@
 -- The rows of the last predicate end where those of the stored tables begin.
-use Prim.Native.Nat.{_+_, _*_}
 use native.Mathlib.Omega.{arith}
 use Rattle.model.specs.Store.{tablesIn}
+use Rattle.tables.proofs.Images.{entry-inside}
 use borrow.Author.Needs.{needs}
-use Rattle.tables.proofs.Images.{few-predicates}
 use Rattle.building.proofs.Front.{last-entry}
 use Rattle.building.proofs.builder.stored_start.Statement.{statement}
 use Rattle.building.proofs.builder.stored_start.Tie as tie
@@ -15,44 +14,23 @@ returns : tie.Need-returns
 unfolding tablesIn
 returns c = rw (c .before .if1 .taken) (c .rows-start .ensures)
 
-mul-last : tie.Need-mul-last
-mul-last c = omega (arith, few-predicates (c .before .before .pre))
+sub-table-entry : tie.Need-sub-table-entry
+sub-table-entry c = search needs
 
-add-start : tie.Need-add-start
-add-start c = omega (arith, few-predicates (c .before .before .pre))
-
-mul-start : tie.Need-mul-start
-mul-start c = omega (arith, few-predicates (c .before .before .pre))
-
-shared-slice-read-start : tie.Need-shared-slice-read-start
-shared-slice-read-start c = omega (arith, few-predicates (c .before .before .before .pre))
-
-cast-start : tie.Need-cast-start
-cast-start c = omega (arith, c .shared-slice-known2 .given (3 * c .before .before .before .args .count + 2))
-
-add-rows : tie.Need-add-rows
-add-rows c = omega (arith, few-predicates (c .before .before .before .pre))
-
-mul-rows : tie.Need-mul-rows
-mul-rows c = omega (arith, few-predicates (c .before .before .before .pre))
-
-shared-slice-read-rows : tie.Need-shared-slice-read-rows
-shared-slice-read-rows c = omega (arith, few-predicates (c .before .before .before .before .pre))
-
-cast-rows : tie.Need-cast-rows
-cast-rows c = omega (arith, c .shared-slice-known3 .given (3 * c .before .before .before .before .args .count + 1))
+table-entry-requires : tie.Need-table-entry-requires
+table-entry-requires c κs = entry-inside (c .before .before .pre) _ (omega arith)
 
 mul-result : tie.Need-mul-result
-mul-result c = omega (arith, c .shared-slice-known3 .given (3 * c .before .before .before .before .args .count + 1))
+mul-result c = omega (arith, c .before .table-entry .ensures .small-rows)
 
 add-result : tie.Need-add-result
-add-result c =
-    let known = c .shared-slice-known3 .given in
-    let last = 3 * c .before .before .before .before .args .count in
-    omega (arith, known (last + 2), known (last + 1))
+add-result c = let last = c .before .before .table-entry .ensures in omega (arith, last .small-rows, last .small-start)
 
 returns-2 : tie.Need-returns-2
-returns-2 c = last-entry (c .before .before .before .before .pre) (c .before .before .if1 .left)
+returns-2 c =
+    let called = c .before .before in
+    let last = called .table-entry .ensures in
+    rw (last .start, last .rows) (last-entry (called .before .before .before .pre) (called .before .if1 .left))
 
 pub stored-start-spec : {M : Type 1} → statement M
 stored-start-spec =
@@ -60,15 +38,8 @@ stored-start-spec =
     (tie.spec
     rows-start-requires
     returns
-    mul-last
-    add-start
-    mul-start
-    shared-slice-read-start
-    cast-start
-    add-rows
-    mul-rows
-    shared-slice-read-rows
-    cast-rows
+    sub-table-entry
+    table-entry-requires
     mul-result
     add-result
     returns-2)

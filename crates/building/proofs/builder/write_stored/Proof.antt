@@ -4,11 +4,11 @@ use native.Mathlib.Omega.{arith}
 use mathlib.Core.Path.{_≡_, sym, ap, _∙_}
 use mathlib.Core.Logic.{⊎-elim}
 use mathlib.Core.Bool.{true, false}
-use lib.ListN.{length, getD}
+use lib.ListN.{length}
 use lib.Seq.{length-sets}
-use mir.Facts.{fits-widen}
 use borrow.Author.Needs.{needs}
 use Rattle.model.specs.Site.{mostPredicates}
+use Rattle.model.specs.Tables.{kindCount}
 use Rattle.model.specs.Store.{isStoredTable, semiJoins, vpEntryAt}
 use Rattle.tables.specs.SiteWords.{siteIn, reducedAt}
 use Rattle.tables.proofs.Images.{mostSemiJoins, few-predicates, few-semi-joins, entries-inside}
@@ -40,44 +40,34 @@ loop-holds c =
 operands-at-requires : tie.Need-operands-at-requires Inv-loop μ-loop
 operands-at-requires c κs = (c .before .before .before .before .pre .0 .0, c .loop-test .taken)
 
-mul-kept : tie.Need-mul-kept Inv-loop μ-loop
-mul-kept c = search needs
+-- the entry is that of the semi-join
+entered : (c : tie.After-operands-at Inv-loop μ-loop) → let l = c .before .before in
+    c .operands-at .result .entry ≡ vpEntryAt (l .before .before .before .args .count) + 2 * l .loop .x
+entered c = rw (c .before .before .before .before .before .pre .0 .0 .predicates) at (c .operands-at .ensures .entry-place)
 
-add-kept : tie.Need-add-kept Inv-loop μ-loop
-add-kept c = search needs
-
-mul-kept-2 : tie.Need-mul-kept-2 Inv-loop μ-loop
-mul-kept-2 c = search needs
-
-add-kept-2 : tie.Need-add-kept-2 Inv-loop μ-loop
-add-kept-2 c = search needs
-
-mul-kept-3 : tie.Need-mul-kept-3 Inv-loop μ-loop
-mul-kept-3 c = search needs
-
-shared-slice-read-kept : tie.Need-shared-slice-read-kept Inv-loop μ-loop
-shared-slice-read-kept c = omega (arith, entries-inside (c .before .before .before .before .before .before .pre .0 .0))
-
-cast-kept : tie.Need-cast-kept Inv-loop μ-loop
-cast-kept c = fits-widen tt (c .shared-slice-known2 .given _)
+semi-join-entry-requires : tie.Need-semi-join-entry-requires Inv-loop μ-loop
+semi-join-entry-requires c κs =
+    let turn = c .before in
+    omega (arith, entered c, entries-inside (turn .before .before .before .before .pre .0 .0), turn .loop-test .taken)
 
 -- what the entry has counted
-counted : (c : tie.After-shared-slice-known2 Inv-loop μ-loop)
+counted : (c : tie.After-semi-join-entry Inv-loop μ-loop)
     → let l = c .before .before .before in
     let a = l .before .before .before .args in
-    Counted (siteIn (a .count) (a .image .now)) (l .loop .x) (getD (a .image .now) (vpEntryAt (a .count) + 2 * l .loop .x) 0) (c .before .operands-at .result .rows)
+    Counted (siteIn (a .count) (a .image .now)) (l .loop .x) (c .semi-join-entry .result .rows) (c .before .operands-at .result .rows)
 counted c =
     let l = c .before .before .before in
     let s = l .before .before .before in
     let taken = c .before .before .loop-test .taken in
-    counted-of (s .pre .0 .0) (l .loop .x) taken (s .pre .0 .2 .counts (l .loop .x) taken) (c .before .operands-at .ensures .full)
+    let count = rw (entered (c .before)) at (c .semi-join-entry .ensures .rows) in
+    counted-of (s .pre .0 .0) (l .loop .x) taken (count ∙ s .pre .0 .2 .counts (l .loop .x) taken) (c .before .operands-at .ensures .full)
 
 -- what the call has answered
-kept : (c : tie.After-is-stored Inv-loop μ-loop)
+stored : (c : tie.After-is-stored Inv-loop μ-loop)
     → let l = c .before .before .before .before in
     let a = l .before .before .before .args in
     c .is-stored .result ≡ isStoredTable (a .t) (reducedAt (siteIn (a .count) (a .image .now)) (l .loop .x))
-kept c = c .is-stored .ensures ∙ counted-stored (counted (c .before)) _
+stored c = c .is-stored .ensures ∙ counted-stored (counted (c .before)) _
 
 -- the semi-join is one of the site
 inside : (c : tie.In-loop Inv-loop μ-loop)
@@ -96,7 +86,7 @@ write-semi-join-requires c κs =
     let turn = c .before .before .before .before .before in
     let room = turn .before .before .before .before .pre .1 in (
       (o .inside, o .partner-inside, o .own-column, o .partner-column),
-      rw (o .left) (stored-room (turn .before .loop .inv .3) (inside turn) (sym (c .before .if1 .taken) ∙ kept (c .before .before)) room),
+      rw (o .left) (stored-room (turn .before .loop .inv .3) (inside turn) (sym (c .before .if1 .taken) ∙ stored (c .before .before)) room),
     )
 
 add-x : tie.Need-add-x Inv-loop μ-loop
@@ -115,8 +105,8 @@ loop-again c =
       l .loop .inv .1,
       l .loop .inv .2,
       ⊎-elim
-          (λ w. rw (w .5, w .6, w .2 .ensures .0, w .2 .ensures .1, o .left) (more true (sym (w .0 .taken) ∙ kept (c .before))))
-          (λ w. rw (w .1, w .2) (more false (sym (w .0 .left) ∙ kept (c .before))))
+          (λ w. rw (w .5, w .6, w .2 .ensures .0, w .2 .ensures .1, o .left) (more true (sym (w .0 .taken) ∙ stored (c .before))))
+          (λ w. rw (w .1, w .2) (more false (sym (w .0 .left) ∙ stored (c .before))))
           (c .if1 .came),
     )
 
@@ -126,7 +116,7 @@ same-length c = ap length (c .before .loop .inv .3 .written) ∙ simp length-set
 returns : tie.Need-returns Inv-loop μ-loop
 returns c =
     let s = c .before .before .before .before in
-    let all : c .before .loop .x ≡ s .args .count * (s .args .count * 3) = omega arith in
+    let all : c .before .loop .x ≡ s .args .count * (s .args .count * kindCount) = omega arith in
     stored-all (c .before .loop .inv .3) (rw (length-all-of (s .pre .0 .0)) all)
 
 pub write-stored-spec : {M : Type 1} → statement M
@@ -139,13 +129,7 @@ write-stored-spec =
     mul-x-end-2
     loop-holds
     operands-at-requires
-    mul-kept
-    add-kept
-    mul-kept-2
-    add-kept-2
-    mul-kept-3
-    shared-slice-read-kept
-    cast-kept
+    semi-join-entry-requires
     is-stored-requires
     write-semi-join-requires
     add-x

@@ -6,8 +6,8 @@ use mathlib.Core.Path.{_≡_, refl, sym, _∙_}
 use mathlib.Core.Bool.{true}
 use mathlib.Core.Logic.{⊎-elim}
 use mathlib.Core.List.{List, [], _∷_, _++_, map, map-append}
-use lib.ListN.{length, drop, length-map, length-set, length-append}
-use lib.Seq.{sets}
+use lib.ListN.{length, drop, length-map, length-append}
+use lib.Seq.{sets, length-sets}
 use lib.Dec.{ltb}
 use borrow.Author.Needs.{needs}
 use borrow.Author.Tests.{leb-true, leb-false, le-leb, lt-leb, lt-ltb, le-ltb}
@@ -162,50 +162,11 @@ returns-5 c =
     let v = l .before .loop .inv in
     rw (refusal l (many-rows _ _ _ (term-is k) (le-leb _ _ (j .before .if1 .left)) (term-above j) (rows-are (c .before)) (rw (← v .rows) (lt-leb _ _ (c .if4 .taken))))) refl
 
-mul-image : tie.Need-mul-image Inv-loop μ-loop
-mul-image c = search needs
+cast-put-table-entry : tie.Need-cast-put-table-entry Inv-loop μ-loop
+cast-put-table-entry c = search needs
 
-add-image : tie.Need-add-image Inv-loop μ-loop
-add-image c = search needs
-
-mul-image-2 : tie.Need-mul-image-2 Inv-loop μ-loop
-mul-image-2 c = search needs
-
-slice-write-image : tie.Need-slice-write-image Inv-loop μ-loop
-slice-write-image c = search needs
-
-mul-image-3 : tie.Need-mul-image-3 Inv-loop μ-loop
-mul-image-3 c = search needs
-
-add-image-2 : tie.Need-add-image-2 Inv-loop μ-loop
-add-image-2 c = search needs
-
-add-image-3 : tie.Need-add-image-3 Inv-loop μ-loop
-add-image-3 c = search needs
-
-mul-image-4 : tie.Need-mul-image-4 Inv-loop μ-loop
-mul-image-4 c = search needs
-
-slice-write-image-2 : tie.Need-slice-write-image-2 Inv-loop μ-loop
-slice-write-image-2 c = simp length-set (omega arith)
-
-cast-image : tie.Need-cast-image Inv-loop μ-loop
-cast-image c = search needs
-
-mul-image-5 : tie.Need-mul-image-5 Inv-loop μ-loop
-mul-image-5 c = search needs
-
-add-image-4 : tie.Need-add-image-4 Inv-loop μ-loop
-add-image-4 c = search needs
-
-add-image-5 : tie.Need-add-image-5 Inv-loop μ-loop
-add-image-5 c = search needs
-
-mul-image-6 : tie.Need-mul-image-6 Inv-loop μ-loop
-mul-image-6 c = search needs
-
-slice-write-image-3 : tie.Need-slice-write-image-3 Inv-loop μ-loop
-slice-write-image-3 c = simp length-set (omega arith)
+put-table-entry-requires : tie.Need-put-table-entry-requires Inv-loop μ-loop
+put-table-entry-requires c κs = (omega arith, omega arith)
 
 add-total : tie.Need-add-total Inv-loop μ-loop
 add-total c = search needs
@@ -224,7 +185,9 @@ loop-less c = search needs
 
 loop-again : tie.Need-loop-again Inv-loop μ-loop
 loop-again c =
-    let o = c .before in
+    let put = c .before .before in
+    let test = put .before .before in
+    let o = test .before in
     let j = o .before .before .before .before in
     let k = j .before .before in
     let l = k .before .before .before .before .before in
@@ -232,9 +195,9 @@ loop-again c =
     record {
       done = v .done ++ (k .before .term .given .0 .0, o .before .rows .given .0 .0) ∷ [];
       many = rw length-append (omega arith);
-      part = next-read (v .part) (omega arith) (declaration-given _ _ _ (term-is k) (le-leb _ _ (j .before .if1 .left)) (term-above j) (rows-are o) (rw (← v .rows) (le-leb _ _ (c .if4 .left))));
-      written = rw (← v .many, v .start, v .rows) (declaration-written _ _ _ (v .done) _ (v .written));
-      size = simp length-set (v .size);
+      part = next-read (v .part) (omega arith) (declaration-given _ _ _ (term-is k) (le-leb _ _ (j .before .if1 .left)) (term-above j) (rows-are o) (rw (← v .rows) (le-leb _ _ (test .if4 .left))));
+      written = put .put-table-entry .ensures ∙ rw (← v .many, v .start, v .rows) (declaration-written _ _ _ (v .done) _ (v .written));
+      size = rw (put .put-table-entry .ensures) (simp length-sets (v .size));
       rows = rw sum-snoc (omega arith);
       few = omega arith;
       start = omega arith;
@@ -276,21 +239,8 @@ read-declarations-spec =
     add-if4
     same-length-5
     returns-5
-    mul-image
-    add-image
-    mul-image-2
-    slice-write-image
-    mul-image-3
-    add-image-2
-    add-image-3
-    mul-image-4
-    slice-write-image-2
-    cast-image
-    mul-image-5
-    add-image-4
-    add-image-5
-    mul-image-6
-    slice-write-image-3
+    cast-put-table-entry
+    put-table-entry-requires
     add-total
     mul-here
     add-here

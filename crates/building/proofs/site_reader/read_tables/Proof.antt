@@ -33,13 +33,16 @@ abbrev μ-loop : tie.MeasureT-loop
 μ-loop s at count image₀ next₀ to₀ i₀ image next to i = count - i
 
 -- the entries stand before the rows that are written
-count-is : (c : tie.In-loop Inv-loop μ-loop) → let l = c .before in
-    getD (l .loop .image) (vpEntryAt (l .loop .i) + 1) 0 ≡ getD (l .before .before .before .before .args .image .now) (vpEntryAt (l .loop .i) + 1) 0
-count-is c = let v = c .before .loop .inv in rw (v .written) (getD-before _ _ (vpWords (v .done)) _ 0 (omega arith))
+count-is : (c : tie.After-table-entry Inv-loop μ-loop) → let l = c .before .before .before in
+    c .table-entry .result .rows ≡ getD (l .before .before .before .before .args .image .now) (vpEntryAt (l .loop .i) + 1) 0
+count-is c =
+    let v = c .before .before .before .loop .inv in
+    c .table-entry .ensures .rows ∙ rw (v .written) (getD-before _ _ (vpWords (v .done)) _ 0 (omega arith))
 
-rows-fit : (c : tie.In-loop Inv-loop μ-loop) → let l = c .before in
-    l .loop .to + 2 * getD (l .loop .image) (vpEntryAt (l .loop .i) + 1) 0 ≤ imageWords
-rows-fit c = omega (arith, table-fits _ _ _ (c .before .loop .inv .part) (c .loop-test .taken) (count-is c))
+rows-fit : (c : tie.After-table-entry Inv-loop μ-loop) → c .before .before .before .loop .to + 2 * c .table-entry .result .rows ≤ imageWords
+rows-fit c =
+    let turn = c .before .before in
+    omega (arith, table-fits _ _ _ (turn .before .loop .inv .part) (turn .loop-test .taken) (count-is c))
 
 rows-start-requires : tie.Need-rows-start-requires Inv-loop μ-loop
 rows-start-requires c κs = search needs
@@ -55,26 +58,11 @@ loop-holds c =
       room = rows-room _ (c .before .before .before .pre .0);
     }
 
-mul-n : tie.Need-mul-n Inv-loop μ-loop
-mul-n c = search needs
-
-add-n : tie.Need-add-n Inv-loop μ-loop
-add-n c = search needs
-
-add-n-2 : tie.Need-add-n-2 Inv-loop μ-loop
-add-n-2 c = search needs
-
-mul-n-2 : tie.Need-mul-n-2 Inv-loop μ-loop
-mul-n-2 c = search needs
-
-slice-read-n : tie.Need-slice-read-n Inv-loop μ-loop
-slice-read-n c = search needs
-
-cast-n : tie.Need-cast-n Inv-loop μ-loop
-cast-n c = omega (arith, rows-fit (c .before))
+table-entry-requires : tie.Need-table-entry-requires Inv-loop μ-loop
+table-entry-requires c κs = let v = c .before .before .loop .inv in (omega arith, omega arith)
 
 read-rows-requires : tie.Need-read-rows-requires Inv-loop μ-loop
-read-rows-requires c κs = omega (arith, rows-fit (c .before .before))
+read-rows-requires c κs = omega (arith, rows-fit (c .before), c .before .before .before .before .loop .inv .size)
 
 enum-known-number : tie.Need-enum-known-number Inv-loop μ-loop
 enum-known-number c = search needs
@@ -85,18 +73,19 @@ same-length c = search needs
 returns : tie.Need-returns Inv-loop μ-loop
 returns c =
     let r = c .before .before .before .before .before in
-    let l = r .before .before .before in
-    rw (table-refused _ _ _ (l .before .loop .inv .part) (l .loop-test .taken) (count-is l)
+    let entry = r .before .before in
+    let l = entry .before .before in
+    rw (table-refused _ _ _ (l .before .loop .inv .part) (l .loop-test .taken) (count-is entry)
     (was-refused _ _ _ (r .read-rows .ensures) (c .before .number .given .1))) refl
 
 enum-known-after : tie.Need-enum-known-after Inv-loop μ-loop
 enum-known-after c = search needs
 
 mul-to : tie.Need-mul-to Inv-loop μ-loop
-mul-to c = omega (arith, rows-fit (c .before .before .before .before .before .before .before .before))
+mul-to c = omega (arith, rows-fit (c .before .before .before .before .before .before .before))
 
 add-to : tie.Need-add-to Inv-loop μ-loop
-add-to c = omega (arith, rows-fit (c .before .before .before .before .before .before .before .before))
+add-to c = omega (arith, rows-fit (c .before .before .before .before .before .before .before))
 
 add-i : tie.Need-add-i Inv-loop μ-loop
 add-i c = search needs
@@ -107,12 +96,13 @@ loop-less c = search needs
 loop-again : tie.Need-loop-again Inv-loop μ-loop
 loop-again c =
     let r = c .before .before .before .before .before in
-    let l = r .before .before .before in
+    let entry = r .before .before in
+    let l = entry .before .before in
     let v = l .before .loop .inv in
     let (rows, e, written) = was-taken _ _ _ (r .read-rows .ensures) (c .before .after .given .1) in
     record {
       done = v .done ++ _ ∷ [];
-      part = table-read _ _ _ (v .part) (l .loop-test .taken) (count-is l) e;
+      part = table-read _ _ _ (v .part) (l .loop-test .taken) (count-is entry) e;
       written = written ∙ table-written _ _ _ _ (v .done) _ (v .written) (v .place);
       size = ap length written ∙ length-sets _ _ (tableWords rows) ∙ v .size;
       place = rw (sum-snoc, rows-count _ _ e) (omega arith);
@@ -135,12 +125,7 @@ read-tables-spec =
     μ-loop
     rows-start-requires
     loop-holds
-    mul-n
-    add-n
-    add-n-2
-    mul-n-2
-    slice-read-n
-    cast-n
+    table-entry-requires
     read-rows-requires
     enum-known-number
     same-length

@@ -1,46 +1,16 @@
--- The third word of a predicate's entry.
-use Prim.Native.Nat.{_+_, _<_}
-use native.Mathlib.Omega.{arith}
-use lib.ListN.{length}
-use mir.Facts.{fits-widen}
-use Rattle.model.specs.Store.{vpEntryAt}
+-- The start in the entry of the predicate.
 use Rattle.catalog.proofs.Lookups.{entry-inside, table-rows-at}
 use Rattle.catalog.proofs.lookup.table_start.Statement.{statement}
 use Rattle.catalog.proofs.lookup.table_start.Tie as tie
 
-inside : (c : tie.Start) → vpEntryAt (c .args .i) + 2 < length (c .args .w .now)
-inside c = entry-inside _ (c .pre .0) (c .args .i) (c .pre .1)
-
-mul-result : tie.Need-mul-result
-mul-result c = omega (arith, inside c)
-
-add-result : tie.Need-add-result
-add-result c = omega (arith, inside c)
-
-add-result-2 : tie.Need-add-result-2
-add-result-2 c = omega (arith, inside c)
-
-mul-result-2 : tie.Need-mul-result-2
-mul-result-2 c = omega (arith, inside c)
-
-shared-slice-read-result : tie.Need-shared-slice-read-result
-shared-slice-read-result c = omega (arith, inside (c .before))
-
-cast-result : tie.Need-cast-result
-cast-result c = fits-widen tt (c .shared-slice-known .given _)
+table-entry-requires : tie.Need-table-entry-requires
+table-entry-requires c κs = entry-inside _ (c .before .pre .0) _ (c .before .pre .1)
 
 returns : tie.Need-returns
 returns c =
-    (table-rows-at _ (c .before .pre .0) (c .before .args .i) (c .before .pre .1), omega (arith, c .shared-slice-known .given (vpEntryAt (c .before .args .i) + 2)))
+    let (validated, declared) = c .before .before .pre in
+    let entry = c .table-entry .ensures in
+    (rw (entry .start) (table-rows-at _ validated _ declared), entry .small-start)
 
 pub table-start-spec : {M : Type 1} → statement M
-table-start-spec =
-    tie.close
-    (tie.spec
-    mul-result
-    add-result
-    add-result-2
-    mul-result-2
-    shared-slice-read-result
-    cast-result
-    returns)
+table-start-spec = tie.close (tie.spec table-entry-requires returns)

@@ -5,7 +5,7 @@ use mathlib.Core.Path.{_∙_}
 use mathlib.Core.Logic.{⊎-elim}
 use borrow.Author.Needs.{needs}
 use Rattle.model.specs.Store.{decoded}
-use Rattle.catalog.proofs.Lookups.{passed-site}
+use Rattle.catalog.proofs.Lookups.{validated-site}
 use Rattle.patterns.specs.Members.{patternIn}
 use Rattle.patterns.proofs.MemberLaws.{pattern-length}
 use Rattle.plans.proofs.Chooseable.{full-rows, BestTo, best-none, best-all, best-better, best-kept, best-closed}
@@ -33,7 +33,7 @@ mul-c-end c = search needs
 loop-holds : tie.Need-loop-holds Inv-loop μ-loop
 loop-holds c =
     let s = c .before .before .before in
-    (omega arith, best-none _ _ _ (c .table-rows .ensures ∙ full-rows _ _ _ (passed-site _ (s .pre .0)) (s .pre .1) (s .pre .2)))
+    (omega arith, best-none _ _ _ (c .table-rows .ensures ∙ full-rows _ _ _ (validated-site _ (s .pre .0)) (s .pre .1) (s .pre .2)))
 
 mul-b : tie.Need-mul-b Inv-loop μ-loop
 mul-b c = search needs

@@ -6,7 +6,7 @@ use borrow.Author.Tests.{not-true, not-false}
 use Rattle.model.specs.Store.{decoded}
 use Rattle.plans.specs.Choices.{chooseableTable}
 use Rattle.plans.specs.declared.choosing.Chooseable.the-variants.{Rows, Nothing}
-use Rattle.catalog.proofs.Lookups.{passed-threshold, passed-site}
+use Rattle.catalog.proofs.Lookups.{validated-threshold, validated-site}
 use Rattle.plans.proofs.Chooseable.{table-few, left-few, open-by}
 use Rattle.plans.proofs.choosing.reduced_table.Statement.{statement}
 use Rattle.plans.proofs.choosing.reduced_table.Tie as tie
@@ -17,7 +17,7 @@ qualifies-requires c κs = search needs
 returns : tie.Need-returns
 returns c =
     let s = c .before .before .before in
-    sym (open-by _ _ _ (passed-site _ (s .pre .0)) (s .pre .1) (s .pre .2) refl refl refl (sym (c .before .qualifies .ensures) ∙ not-true _ (c .if1 .taken)) refl)
+    sym (open-by _ _ _ (validated-site _ (s .pre .0)) (s .pre .1) (s .pre .2) refl refl refl (sym (c .before .qualifies .ensures) ∙ not-true _ (c .if1 .taken)) refl)
 
 semi-join-rows-requires : tie.Need-semi-join-rows-requires
 semi-join-rows-requires c κs = search needs
@@ -32,8 +32,8 @@ is-stored-requires : tie.Need-is-stored-requires
 is-stored-requires c κs =
     let left = c .before .before in
     let s = left .before .before .before .before in
-    let yes-site = passed-site _ (s .pre .0) in (
-      rw (c .before .threshold .ensures) (passed-threshold _ (s .pre .0)),
+    let yes-site = validated-site _ (s .pre .0) in (
+      rw (c .before .threshold .ensures) (validated-threshold _ (s .pre .0)),
       rw (left .semi-join-rows .ensures) (left-few _ yes-site _ _ _),
       rw (c .table-rows .ensures) (table-few _ yes-site _),
     )
@@ -45,7 +45,7 @@ stored-is : (c : tie.After-is-stored) {b : Bool} → c .is-stored .result ≡ b 
 stored-is c e =
     let rows = c .before .before .before in
     let s = rows .before .before .before .before in
-    open-by _ _ _ (passed-site _ (s .pre .0)) (s .pre .1) (s .pre .2)
+    open-by _ _ _ (validated-site _ (s .pre .0)) (s .pre .1) (s .pre .2)
     (c .before .before .threshold .ensures) (rows .semi-join-rows .ensures) (c .before .table-rows .ensures)
     (sym (rows .before .before .qualifies .ensures) ∙ not-false _ (rows .before .if1 .left)) (sym (c .is-stored .ensures) ∙ e)
 

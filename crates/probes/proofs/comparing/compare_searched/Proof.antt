@@ -11,14 +11,15 @@ use Rattle.model.specs.Site.{Row}
 use Rattle.model.specs.Tables.{semiJoin}
 use Rattle.model.proofs.Blocks.{Block}
 use Rattle.model.proofs.Rows.{rowAt}
-use Rattle.tables.proofs.Partners.{hasPartner, leftOf, row-not-left, row-left, left-block}
+use Rattle.tables.specs.LeftRows.{leftRows}
+use Rattle.tables.proofs.Partners.{hasPartner, row-not-left, row-left, left-block}
 use Rattle.probes.proofs.ComparedRows.{Compared, none-compared, room-for-one, next-compared, not-next, verdict}
 use Rattle.statistics.proofs.Partnered.{partner-of-value}
 use Rattle.probes.proofs.comparing.compare_searched.Statement.{statement}
 use Rattle.probes.proofs.comparing.compare_searched.Tie as tie
 
 abbrev Inv-loop : tie.InvT-loop
-Inv-loop w objects first marks at k p m own q n other end next₀ i₀ next i = (i ≤ m) × Compared w at k (leftOf w p i own q n other) next
+Inv-loop w objects first marks at k p m own q n other end next₀ i₀ next i = (i ≤ m) × Compared w at k (leftRows w p i own q n other) next
 
 abbrev μ-loop : tie.MeasureT-loop
 μ-loop w objects first marks at k p m own q n other end next₀ i₀ next i = m - i
@@ -37,7 +38,7 @@ at-hand : (c : tie.Then1 Inv-loop μ-loop) →
     let outer = c .before .before .before .before in
     let args = outer .before .before .before .before .args in
     let o = args .o in
-    let left : ℕ → List Row = λ i. leftOf (args .w .now) (o .start) i (o .own) (o .against) (o .partners) (o .other) in
+    let left : ℕ → List Row = λ i. leftRows (args .w .now) (o .start) i (o .own) (o .against) (o .partners) (o .other) in
     Block (left (o .rows)) (length (left (outer .loop .i))) (rowAt (args .w .now) (o .start) (outer .loop .i) ∷ [])
 at-hand c = left-block _ _ _ _ _ _ _ (answer (c .before) ∙ c .if1 .taken) _ (omega arith) (omega arith)
 
@@ -48,7 +49,7 @@ add-end : tie.Need-add-end Inv-loop μ-loop
 add-end c = search needs
 
 loop-holds : tie.Need-loop-holds Inv-loop μ-loop
-unfolding leftOf semiJoin
+unfolding leftRows semiJoin
 loop-holds c = (search needs, none-compared _ _ _)
 
 mul-row : tie.Need-mul-row Inv-loop μ-loop
@@ -75,7 +76,7 @@ stands-next-requires c κs =
     (room-for-one _ _ _ (outer .before .before .before .before .pre .1 .1 .0) (outer .loop .inv .1), omega arith)
 
 returns : tie.Need-returns Inv-loop μ-loop
-unfolding leftOf
+unfolding leftRows
 returns c =
     let match = c .before .before in
     let outer = match .before .before .before .before in
@@ -105,7 +106,7 @@ loop-again c =
     )
 
 returns-2 : tie.Need-returns-2 Inv-loop μ-loop
-unfolding leftOf
+unfolding leftRows
 returns-2 c =
     let start = c .before .before .before .before .before in
     let all : c .before .loop .i ≡ start .args .o .rows = omega arith in

@@ -4,7 +4,7 @@ use native.Mathlib.Omega.{arith}
 use native.Mathlib.Nat.{le-refl}
 use mathlib.Core.Path.{_≡_, sym, _∙_}
 use borrow.Author.Tests.{leb-true}
-use Rattle.tables.proofs.Partners.{leftOf}
+use Rattle.tables.specs.LeftRows.{leftRows}
 use Rattle.statistics.proofs.ColumnRanges.{all-left}
 use Rattle.statistics.proofs.Partnered.{same-subjects, rows-left}
 use borrow.Author.Needs.{needs}
@@ -69,7 +69,7 @@ element-copy-out-if1 : tie.Need-element-copy-out-if1
 element-copy-out-if1 c = search needs
 
 returns : tie.Need-returns
-unfolding leftOf
+unfolding leftRows
 returns c =
     let s = c .before .before .before .before .before .before .before .before .before .before .before .before in
     let a = s .args in

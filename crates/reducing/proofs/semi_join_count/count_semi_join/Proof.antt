@@ -1,4 +1,4 @@
--- The invariants of `count_semi_join`: `kept` counts what is left of the first i rows; `row` has no partner among the first j.
+-- The invariants of `count_semi_join`: `left` counts what is left of the first i rows; `row` has no partner among the first j.
 use Prim.Native.Nat.{_-_, _≤_}
 use native.Mathlib.Omega.{arith}
 use mathlib.Core.Path.{_≡_, refl}
@@ -6,24 +6,25 @@ use mathlib.Core.Bool.{false}
 use lib.ListN.{length, length-append}
 use borrow.Author.Needs.{needs}
 use Rattle.model.specs.Tables.{semiJoin}
-use Rattle.tables.proofs.Partners.{hasPartner, partner-found, no-partner-yet, leftOf, row-not-left, row-left}
+use Rattle.tables.specs.LeftRows.{leftRows}
+use Rattle.tables.proofs.Partners.{hasPartner, partner-found, no-partner-yet, row-not-left, row-left}
 use Rattle.reducing.proofs.semi_join_count.count_semi_join.Statement.{statement}
 use Rattle.reducing.proofs.semi_join_count.count_semi_join.Tie as tie
 
 abbrev Inv-loop : tie.InvT-loop
-Inv-loop w p m own q n other kept₀ i row value j₀ kept j = (j ≤ n) × (kept ≡ kept₀) × (hasPartner w p row own q j other ≡ false)
+Inv-loop w p m own q n other left₀ i row value j₀ left j = (j ≤ n) × (left ≡ left₀) × (hasPartner w p row own q j other ≡ false)
 
 abbrev μ-loop : tie.MeasureT-loop
-μ-loop w p m own q n other kept₀ i row value j₀ kept j = n - j
+μ-loop w p m own q n other left₀ i row value j₀ left j = n - j
 
 abbrev Inv-rows : tie.InvT-rows
-Inv-rows w p m own q n other kept₀ i₀ kept i = (i ≤ m) × (kept ≤ i) × (kept ≡ length (leftOf w p i own q n other))
+Inv-rows w p m own q n other left₀ i₀ left i = (i ≤ m) × (left ≤ i) × (left ≡ length (leftRows w p i own q n other))
 
 abbrev μ-rows : tie.MeasureT-rows
-μ-rows w p m own q n other kept₀ i₀ kept i = m - i
+μ-rows w p m own q n other left₀ i₀ left i = m - i
 
 rows-holds : tie.Need-rows-holds Inv-loop μ-loop Inv-rows μ-rows
-unfolding leftOf semiJoin
+unfolding leftRows semiJoin
 rows-holds c = (search needs, search needs, refl)
 
 add-i : tie.Need-add-i Inv-loop μ-loop Inv-rows μ-rows
@@ -55,7 +56,7 @@ rows-again : tie.Need-rows-again Inv-loop μ-loop Inv-rows μ-rows
 rows-again c =
     let inner = c .before in
     let outer = inner .before .before .before in
-    let all : inner .loop .j ≡ outer .before .args .n = omega arith in
+    let all : inner .loop .j ≡ outer .before .args .o .partners = omega arith in
     (search needs, search needs, rw (inner .loop .inv .1, row-not-left _ _ _ _ _ _ _ (omega arith) (rw all at (inner .loop .inv .2))) (outer .rows .inv .2))
 
 mul-other-value : tie.Need-mul-other-value Inv-loop μ-loop Inv-rows μ-rows
@@ -76,8 +77,8 @@ shared-slice-read-other-value c = search needs
 add-j : tie.Need-add-j Inv-loop μ-loop Inv-rows μ-rows
 add-j c = search needs
 
-add-kept : tie.Need-add-kept Inv-loop μ-loop Inv-rows μ-rows
-add-kept c = search needs
+add-left : tie.Need-add-left Inv-loop μ-loop Inv-rows μ-rows
+add-left c = search needs
 
 -- no partner: nothing is counted; stands before the partner, so that continuing this loop there is refused by the count
 loop-less : tie.Need-loop-less Inv-loop μ-loop Inv-rows μ-rows
@@ -99,13 +100,12 @@ rows-again-2 c =
     let outer = inner .before .before .before in
     let args = outer .before .args in
     let pre = outer .before .pre in
-    let found = partner-found (args .w .now) (args .p) (outer .rows .i) (args .own) (args .q) (args .other) (pre .2) (pre .3) (inner .loop .j) (args .n) (c .before .before .loop-test .taken) (pre .1) (c .if1 .taken) in
+    let found = partner-found (args .w .now) (args .o .start) (outer .rows .i) (args .o .own) (args .o .against) (args .o .other) (pre .2) (pre .3) (inner .loop .j) (args .o .partners) (c .before .before .loop-test .taken) (pre .1) (c .if1 .taken) in
     (search needs, search needs, rw (inner .loop .inv .1, row-left _ _ _ _ _ _ _ found (omega arith), length-append) (omega arith))
 
 returns : tie.Need-returns Inv-loop μ-loop Inv-rows μ-rows
-unfolding leftOf
 returns c =
-    let all : c .before .rows .i ≡ c .before .before .args .m = omega arith in
+    let all : c .before .rows .i ≡ c .before .before .args .o .rows = omega arith in
     rw all at (c .before .rows .inv .2)
 
 pub count-semi-join-spec : {M : Type 1} → statement M
@@ -131,7 +131,7 @@ count-semi-join-spec =
     add-other-value-2
     mul-other-value-2
     shared-slice-read-other-value
-    add-kept
+    add-left
     rows-less-2
     rows-again-2
     add-j

@@ -7,29 +7,30 @@ use lib.ListN.{length, length-set}
 use borrow.Author.Needs.{needs}
 use Rattle.model.specs.Tables.{semiJoin}
 use Rattle.model.proofs.Rows.{Written, none-written, length-written, row-written}
-use Rattle.tables.proofs.Partners.{hasPartner, partner-found, no-partner-yet, leftOf, row-not-left, row-left, more-left}
+use Rattle.tables.specs.LeftRows.{leftRows}
+use Rattle.tables.proofs.Partners.{hasPartner, partner-found, no-partner-yet, row-not-left, row-left, more-left}
 use Rattle.reducing.proofs.semi_join_write.write_semi_join.Statement.{statement}
 use Rattle.reducing.proofs.semi_join_write.write_semi_join.Tie as tie
 
 abbrev Inv-loop : tie.InvT-loop
-Inv-loop w p m own q n other out₀ to next₀ i row value j₀ out next j =
+Inv-loop w out₀ to p m own q n other next₀ i row value j₀ out next j =
     (j ≤ n) × (next ≡ next₀) × (out ≡ out₀) × (hasPartner w p row own q j other ≡ false)
 
 abbrev μ-loop : tie.MeasureT-loop
-μ-loop w p m own q n other out₀ to next₀ i row value j₀ out next j = n - j
+μ-loop w out₀ to p m own q n other next₀ i row value j₀ out next j = n - j
 
 abbrev Inv-rows : tie.InvT-rows
-Inv-rows w p m own q n other out₀ to next₀ i₀ out next i =
-    (i ≤ m) × Written out₀ to (leftOf w p i own q n other) out next
+Inv-rows w out₀ to p m own q n other next₀ i₀ out next i =
+    (i ≤ m) × Written out₀ to (leftRows w p i own q n other) out next
 
 abbrev μ-rows : tie.MeasureT-rows
-μ-rows w p m own q n other out₀ to next₀ i₀ out next i = m - i
+μ-rows w out₀ to p m own q n other next₀ i₀ out next i = m - i
 
 -- the partner at hand
 found : (c : tie.Then1 Inv-loop μ-loop Inv-rows μ-rows) →
     let outer = c .before .before .before .before .before .before in
     let args = outer .before .args in
-    hasPartner (args .w .now) (args .p) (outer .rows .i) (args .own) (args .q) (args .n) (args .other) ≡ true
+    hasPartner (args .w .now) (args .o .start) (outer .rows .i) (args .o .own) (args .o .against) (args .o .partners) (args .o .other) ≡ true
 found c =
     let inner = c .before .before .before in
     let pre = inner .before .before .before .before .pre .0 in
@@ -40,16 +41,15 @@ room : (c : tie.Then1 Inv-loop μ-loop Inv-rows μ-rows) →
     let inner = c .before .before .before in
     let args = inner .before .before .before .before .args in
     (inner .loop .next + 2 ≤ length (args .out .now)) × (length (inner .loop .out) ≡ length (args .out .now))
-unfolding leftOf
 room c =
     let inner = c .before .before .before in
     let outer = inner .before .before .before in (
-      omega (arith, more-left _ _ _ _ _ _ _ (found c) (outer .before .args .m) (omega arith) (omega arith)),
+      omega (arith, more-left _ _ _ _ _ _ _ (found c) (outer .before .args .o .rows) (omega arith) (omega arith)),
       ap length (inner .loop .inv .2) ∙ length-written (outer .rows .inv .1),
     )
 
 rows-holds : tie.Need-rows-holds Inv-loop μ-loop Inv-rows μ-rows
-unfolding leftOf semiJoin
+unfolding leftRows semiJoin
 rows-holds c = (search needs, none-written _ _)
 
 add-i : tie.Need-add-i Inv-loop μ-loop Inv-rows μ-rows
@@ -81,7 +81,7 @@ rows-again : tie.Need-rows-again Inv-loop μ-loop Inv-rows μ-rows
 rows-again c =
     let inner = c .before in
     let outer = inner .before .before .before in
-    let all : inner .loop .j ≡ outer .before .args .n = omega arith in
+    let all : inner .loop .j ≡ outer .before .args .o .partners = omega arith in
     let same = row-not-left _ _ _ _ _ _ _ (omega arith) (rw all at (inner .loop .inv .3)) in
     (search needs, rw (inner .loop .inv .1, inner .loop .inv .2, same) (outer .rows .inv .1))
 
@@ -174,9 +174,8 @@ same-length : tie.Need-same-length Inv-loop μ-loop Inv-rows μ-rows
 same-length c = length-written (c .before .rows .inv .1)
 
 returns : tie.Need-returns Inv-loop μ-loop Inv-rows μ-rows
-unfolding leftOf
 returns c =
-    let all : c .before .rows .i ≡ c .before .before .args .m = omega arith in
+    let all : c .before .rows .i ≡ c .before .before .args .o .rows = omega arith in
     let x = rw all at (c .before .rows .inv .1) in
     (x .place, x .words)
 

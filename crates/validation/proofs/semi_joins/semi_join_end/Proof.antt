@@ -12,6 +12,7 @@ use Rattle.model.specs.Site.{Row}
 use Rattle.model.specs.Tables.{semiJoin, isStored, kindAt, kindCount}
 use Rattle.model.specs.Store.{Reduced, rowsIn, vpEntryAt, semiJoinPlace}
 use Rattle.tables.specs.Columns.{columnOf, kindOfColumns}
+use Rattle.tables.specs.LeftRows.{leftRows}
 use Rattle.tables.specs.SiteWords.{siteIn, reducedAt}
 use Rattle.statistics.specs.IndexedTables.{Searchable, ObjectsSorted}
 use Rattle.statistics.specs.Ranges.{ColumnRange, apart}
@@ -144,6 +145,7 @@ module _ (o : tie.After-operands-of) where
   counted : {n : ℕ} → let r = o .operands-of .result in
       n ≡ length (semiJoin (kindOfColumns own other) (rowsIn (r .rows) (drop (r .start) (start .args .w .now))) (rowsIn (r .partners) (drop (r .against) (start .args .w .now))))
       → n ≡ length (semiJoinOf start .rows)
+  unfolding leftRows
   counted e = e ∙ ap length (o .operands-of .ensures .0 .left)
 
 -- whether the rows would be stored, by the rows that the semi-join is of
@@ -244,6 +246,7 @@ stored-end-requires c κs =
     )
 
 returns-4 : tie.Need-returns-4
+unfolding leftRows
 returns-4 c =
     let test = c .before in
     let o = test .before .before .before .before .before .before .before .before .before .before in

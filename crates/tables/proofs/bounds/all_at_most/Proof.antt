@@ -1,23 +1,23 @@
--- The invariant: `terms` says whether the first i words are.
+-- The invariant: `within` says whether none of the first i words is above.
 use Prim.Native.Nat.{_-_, _≤_}
 use native.Mathlib.Omega.{arith}
 use mathlib.Core.Path.{_≡_, refl}
 use mathlib.Core.Bool.{and-true, and-false}
 use mathlib.Core.Logic.{⊎-elim}
 use lib.ListN.{take, drop}
+use lib.Dec.{leb}
 use borrow.Author.Needs.{needs}
 use borrow.Author.Tests.{le-leb, lt-leb}
 use Rattle.model.specs.Lists.{all}
-use Rattle.model.specs.Numbers.{isTerm}
 use Rattle.tables.proofs.Proper.{word-more}
-use Rattle.tables.proofs.row_order.are_terms.Statement.{statement}
-use Rattle.tables.proofs.row_order.are_terms.Tie as tie
+use Rattle.tables.proofs.bounds.all_at_most.Statement.{statement}
+use Rattle.tables.proofs.bounds.all_at_most.Tie as tie
 
 abbrev Inv-loop : tie.InvT-loop
-Inv-loop w start n terms₀ i₀ terms i = (i ≤ n) × (terms ≡ all isTerm (take i (drop start w)))
+Inv-loop w start n most within₀ i₀ within i = (i ≤ n) × (within ≡ all (λ x. leb x most) (take i (drop start w)))
 
 abbrev μ-loop : tie.MeasureT-loop
-μ-loop w start n terms₀ i₀ terms i = n - i
+μ-loop w start n most within₀ i₀ within i = n - i
 
 loop-holds : tie.Need-loop-holds Inv-loop μ-loop
 loop-holds c = (omega arith, refl)
@@ -41,7 +41,7 @@ loop-again : tie.Need-loop-again Inv-loop μ-loop
 loop-again c =
     let l = c .before .before .before in
     let a = l .before .args in
-    let more = word-more isTerm (a .w .now) (a .start) (l .loop .i) (omega arith) in (
+    let more = word-more (λ x. leb x (a .most)) (a .w .now) (a .start) (l .loop .i) (omega arith) in (
       omega arith,
       ⊎-elim
           (λ w. rw (w .1, more, lt-leb _ _ (w .0 .taken), and-false) refl)
@@ -54,8 +54,8 @@ returns c =
     let all-asked : c .before .loop .i ≡ c .before .before .args .n = omega arith in
     rw all-asked at (c .before .loop .inv .1)
 
-pub are-terms-spec : {M : Type 1} → statement M
-are-terms-spec =
+pub all-at-most-spec : {M : Type 1} → statement M
+all-at-most-spec =
     tie.close
     (tie.spec
     Inv-loop
