@@ -1,3 +1,3 @@
 -- Laws that the proofs of this crate cite.
 pub mod ComparedRows
-pub mod Marking
+pub mod Containing

@@ -1,3 +1,4 @@
 -- What the functions of this crate are held to.
-pub mod Marks
+pub mod OneHashFilter
+pub mod Probed
 pub mod StoredRows

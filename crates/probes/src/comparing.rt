@@ -1,17 +1,16 @@
 ghost use mathlib.Core.Path.{_≡_};
 ghost use mathlib.Core.Logic.{_≢_};
-ghost use Prim.Native.Nat.{_<_, _≤_, _+_, _*_};
+ghost use Prim.Native.Nat.{_≤_, _+_, _*_};
 ghost use lib.ListN.{length, take, drop};
 ghost use Rattle.model.specs.Lists.{filter, sameWords};
-ghost use Rattle.model.specs.Tables.{semiJoin};
 ghost use Rattle.model.specs.Store.{rowsIn, tableWords};
-ghost use Rattle.tables.specs.Columns.{kindOfColumns};
-ghost use Rattle.searching.specs.Search.{Ascending, hasWord};
-ghost use Rattle.statistics.specs.IndexedTables.{Searchable, ObjectsSorted};
+ghost use Rattle.tables.specs.LeftRows.{leftOf};
+ghost use Rattle.searching.specs.Search.{SortedRun, hasWord};
 ghost use Rattle.statistics.specs.Ranges.{hasValue};
-ghost use Rattle.probes.specs.Marks.{Marked};
+ghost use Rattle.probes.specs.OneHashFilter.{ContainsAll};
+ghost use Rattle.probes.specs.Probed.{Probed};
 ghost use Rattle.probes.specs.StoredRows.{standsNext};
-use crate::marks::mark_values;
+use crate::one_hash_filter::insert_values;
 use crate::values::has_partner;
 use crate::walking::walk_to;
 use tables::operands::Operands;
@@ -36,14 +35,13 @@ fn compare_searched(
     objects: &[u32],
     first: usize,
     o: Operands,
-    marks: &[u8],
+    slots: &[u8],
     at: usize,
     k: usize,
 ) -> bool
-    requires { ⌜ (o .start + 2 * o .rows ≤ length (now w)) × Searchable (now w) (now objects) first (o .against) (o .partners) × (o .own < 2) × (o .other < 2) ⌝ }
-    requires { ⌜ Marked (hasValue (now w) (o .against) (o .partners) (o .other)) (now marks) ⌝ }
-    requires { ⌜ (at + 2 * k ≤ length (now w)) × (o .other ≡ 1 → ObjectsSorted (now w) (now objects) first (o .against) (o .partners)) ⌝ }
-    ensures { λ r. ⌜ r ≡ sameWords (take (2 * k) (drop at (now (w .entry)))) (tableWords (semiJoin (kindOfColumns (o .own) (o .other)) (rowsIn (o .rows) (drop (o .start) (now (w .entry)))) (rowsIn (o .partners) (drop (o .against) (now (w .entry)))))) ⌝ }
+    requires { ⌜ Probed (now w) (now objects) first o × (at + 2 * k ≤ length (now w)) ⌝ }
+    requires { ⌜ ContainsAll (hasValue (now w) (o .against) (o .partners) (o .other)) (now slots) ⌝ }
+    ensures { λ r. ⌜ r ≡ sameWords (take (2 * k) (drop at (now (w .entry)))) (tableWords (leftOf (now (w .entry)) o)) ⌝ }
 {
     let p = o.start;
     let m = o.rows;
@@ -56,7 +54,7 @@ fn compare_searched(
     for i in 0..m {
         let row = p + 2 * i;
         let value = w[row + own];
-        if has_partner(w, objects, first, marks, q, n, other, value) {
+        if has_partner(w, objects, first, slots, q, n, other, value) {
             if !stands_next(w, next, end, row) {
                 return false;
             }
@@ -76,12 +74,12 @@ fn compare_walked(
     base: usize,
     stride: usize,
     n: usize,
-    marks: &[u8],
+    slots: &[u8],
     at: usize,
     k: usize,
 ) -> bool
-    requires { ⌜ (start + 2 * m ≤ length (now w)) × Ascending (now w) start 2 m × (at + 2 * k ≤ length (now w)) ⌝ }
-    requires { ⌜ (0 < stride) × (base + stride * n ≤ length (now words)) × Ascending (now words) base stride n × Marked (hasWord (now words) base stride n) (now marks) ⌝ }
+    requires { ⌜ SortedRun (now w) start 2 m × (at + 2 * k ≤ length (now w)) ⌝ }
+    requires { ⌜ SortedRun (now words) base stride n × ContainsAll (hasWord (now words) base stride n) (now slots) ⌝ }
     ensures { λ r. ⌜ r ≡ sameWords (take (2 * k) (drop at (now (w .entry)))) (tableWords (filter (λ row. hasWord (now (words .entry)) base stride n (row .0)) (rowsIn m (drop start (now (w .entry)))))) ⌝ }
 {
     let end = at + 2 * k;
@@ -90,7 +88,7 @@ fn compare_walked(
     for i in 0..m {
         let row = start + 2 * i;
         let value = w[row];
-        let met = walk_to(words, base, stride, n, marks, place, value);
+        let met = walk_to(words, base, stride, n, slots, place, value);
         place = met.place;
         if met.found {
             if !stands_next(w, here, end, row) {
@@ -103,22 +101,21 @@ fn compare_walked(
 }
 
 // The rows that are left, compared: where the own column is the subject by a walk, else by search.
-fn compare_marked(
+fn compare_filtered(
     w: &[u32],
     objects: &[u32],
     first: usize,
     o: Operands,
-    marks: &[u8],
+    slots: &[u8],
     at: usize,
     k: usize,
 ) -> bool
-    requires { ⌜ Searchable (now w) (now objects) first (o .start) (o .rows) × Searchable (now w) (now objects) first (o .against) (o .partners) × (o .own < 2) × (o .other < 2) ⌝ }
-    requires { ⌜ Marked (hasValue (now w) (o .against) (o .partners) (o .other)) (now marks) ⌝ }
-    requires { ⌜ (at + 2 * k ≤ length (now w)) × (o .other ≡ 1 → ObjectsSorted (now w) (now objects) first (o .against) (o .partners)) ⌝ }
-    ensures { λ r. ⌜ r ≡ sameWords (take (2 * k) (drop at (now (w .entry)))) (tableWords (semiJoin (kindOfColumns (o .own) (o .other)) (rowsIn (o .rows) (drop (o .start) (now (w .entry)))) (rowsIn (o .partners) (drop (o .against) (now (w .entry)))))) ⌝ }
+    requires { ⌜ Probed (now w) (now objects) first o × (at + 2 * k ≤ length (now w)) ⌝ }
+    requires { ⌜ ContainsAll (hasValue (now w) (o .against) (o .partners) (o .other)) (now slots) ⌝ }
+    ensures { λ r. ⌜ r ≡ sameWords (take (2 * k) (drop at (now (w .entry)))) (tableWords (leftOf (now (w .entry)) o)) ⌝ }
 {
     if o.own != 0 {
-        return compare_searched(w, objects, first, o, marks, at, k);
+        return compare_searched(w, objects, first, o, slots, at, k);
     }
     if o.other == 0 {
         return compare_walked(
@@ -129,7 +126,7 @@ fn compare_marked(
             o.against,
             2,
             o.partners,
-            marks,
+            slots,
             at,
             k,
         );
@@ -143,31 +140,30 @@ fn compare_marked(
         copy,
         1,
         o.partners,
-        marks,
+        slots,
         at,
         k,
     )
 }
 
-// The same, with the partners' values marked or not.
+// The same, with a filter of the partners' values or without.
 pub fn compare_partnered(
     w: &[u32],
     objects: &[u32],
     first: usize,
     o: Operands,
-    marked: bool,
+    filtered: bool,
     at: usize,
     k: usize,
 ) -> bool
-    requires { ⌜ Searchable (now w) (now objects) first (o .start) (o .rows) × Searchable (now w) (now objects) first (o .against) (o .partners) × (o .own < 2) × (o .other < 2) ⌝ }
-    requires { ⌜ (at + 2 * k ≤ length (now w)) × (o .other ≡ 1 → ObjectsSorted (now w) (now objects) first (o .against) (o .partners)) ⌝ }
-    ensures { λ r. ⌜ r ≡ sameWords (take (2 * k) (drop at (now (w .entry)))) (tableWords (semiJoin (kindOfColumns (o .own) (o .other)) (rowsIn (o .rows) (drop (o .start) (now (w .entry)))) (rowsIn (o .partners) (drop (o .against) (now (w .entry)))))) ⌝ }
+    requires { ⌜ Probed (now w) (now objects) first o × (at + 2 * k ≤ length (now w)) ⌝ }
+    ensures { λ r. ⌜ r ≡ sameWords (take (2 * k) (drop at (now (w .entry)))) (tableWords (leftOf (now (w .entry)) o)) ⌝ }
 {
-    if !marked {
-        // Fewer marks than remainders: none are kept.
-        return compare_marked(w, objects, first, o, &[0u8; 1], at, k);
+    if !filtered {
+        // Fewer slots than remainders: no filter.
+        return compare_filtered(w, objects, first, o, &[0u8; 1], at, k);
     }
-    let mut marks = [0u8; 1024];
-    mark_values(w, o.against, o.partners, o.other, &mut marks);
-    compare_marked(w, objects, first, o, &marks, at, k)
+    let mut slots = [0u8; 1024];
+    insert_values(w, o.against, o.partners, o.other, &mut slots);
+    compare_filtered(w, objects, first, o, &slots, at, k)
 }

@@ -1,16 +1,13 @@
 ghost use mathlib.Core.Path.{_≡_};
-ghost use Prim.Native.Nat.{_<_, _≤_, _+_, _*_};
-ghost use lib.ListN.{length, drop};
-ghost use Rattle.model.specs.Site.{mostPredicates};
-ghost use Rattle.model.specs.Tables.{semiJoin};
-ghost use Rattle.model.specs.Store.{rowsIn};
-ghost use Rattle.tables.specs.Columns.{kindOfColumns};
-ghost use Rattle.searching.specs.Search.{Ascending, hasWord};
-ghost use Rattle.statistics.specs.IndexedTables.{passing, Searchable, ObjectsSorted};
+ghost use Prim.Native.Nat.{_≤_, _+_};
+ghost use lib.ListN.{length};
+ghost use Rattle.tables.specs.LeftRows.{leftOf};
+ghost use Rattle.searching.specs.Search.{SortedRun, hasWord};
+ghost use Rattle.statistics.specs.IndexedTables.{passing, SearchableBy};
 ghost use Rattle.statistics.specs.Ranges.{hasValue, ColumnRange};
-ghost use Rattle.probes.specs.Marks.{Marked};
-use crate::marks::mark_values;
-use crate::marks::should_mark;
+ghost use Rattle.probes.specs.OneHashFilter.{ContainsAll};
+use crate::one_hash_filter::insert_values;
+use crate::one_hash_filter::should_filter;
 use crate::walking::walk_to;
 use tables::operands::Operands;
 
@@ -24,17 +21,17 @@ fn count_common(
     base: usize,
     stride: usize,
     n: usize,
-    marks: &[u8],
+    slots: &[u8],
 ) -> usize
-    requires { ⌜ (0 < step) × (from + step * m ≤ length (now own)) × Ascending (now own) from step m ⌝ }
-    requires { ⌜ (0 < stride) × (base + stride * n ≤ length (now words)) × Ascending (now words) base stride n × Marked (hasWord (now words) base stride n) (now marks) ⌝ }
+    requires { ⌜ SortedRun (now own) from step m ⌝ }
+    requires { ⌜ SortedRun (now words) base stride n × ContainsAll (hasWord (now words) base stride n) (now slots) ⌝ }
     ensures { λ r. ⌜ r ≡ passing (now (own .entry)) from step m (hasWord (now (words .entry)) base stride n) ⌝ }
 {
     let mut kept: usize = 0;
     let mut place: usize = 0;
     for i in 0..m {
         let value = own[from + step * i];
-        let met = walk_to(words, base, stride, n, marks, place, value);
+        let met = walk_to(words, base, stride, n, slots, place, value);
         place = met.place;
         if met.found {
             kept += 1;
@@ -52,24 +49,23 @@ fn count_values(
     objects: &[u32],
     first: usize,
     o: Operands,
-    marks: &[u8],
+    slots: &[u8],
 ) -> usize
-    requires { ⌜ (0 < stride) × (base + stride * o .rows ≤ length (now own)) × Ascending (now own) base stride (o .rows) ⌝ }
-    requires { ⌜ Searchable (now w) (now objects) first (o .against) (o .partners) × (o .other < 2) × (o .other ≡ 1 → ObjectsSorted (now w) (now objects) first (o .against) (o .partners)) ⌝ }
-    requires { ⌜ Marked (hasValue (now w) (o .against) (o .partners) (o .other)) (now marks) ⌝ }
+    requires { ⌜ SortedRun (now own) base stride (o .rows) × SearchableBy (now w) (now objects) first (o .against) (o .partners) (o .other) ⌝ }
+    requires { ⌜ ContainsAll (hasValue (now w) (o .against) (o .partners) (o .other)) (now slots) ⌝ }
     ensures { λ r. ⌜ r ≡ passing (now (own .entry)) base stride (o .rows) (hasValue (now (w .entry)) (o .against) (o .partners) (o .other)) ⌝ }
 {
     let m = o.rows;
     let n = o.partners;
     if o.other == 0 {
-        return count_common(own, base, stride, m, w, o.against, 2, n, marks);
+        return count_common(own, base, stride, m, w, o.against, 2, n, slots);
     }
     let copy = (o.against - first) / 2;
-    count_common(own, base, stride, m, objects, copy, 1, n, marks)
+    count_common(own, base, stride, m, objects, copy, 1, n, slots)
 }
 
-// The same, with the partners' values marked or not.
-fn count_marked(
+// The same, with a filter of the partners' values or without.
+fn count_filtered(
     own: &[u32],
     base: usize,
     stride: usize,
@@ -77,39 +73,36 @@ fn count_marked(
     objects: &[u32],
     first: usize,
     o: Operands,
-    marked: bool,
+    filtered: bool,
 ) -> usize
-    requires { ⌜ (0 < stride) × (base + stride * o .rows ≤ length (now own)) × Ascending (now own) base stride (o .rows) ⌝ }
-    requires { ⌜ Searchable (now w) (now objects) first (o .against) (o .partners) × (o .other < 2) × (o .other ≡ 1 → ObjectsSorted (now w) (now objects) first (o .against) (o .partners)) ⌝ }
+    requires { ⌜ SortedRun (now own) base stride (o .rows) × SearchableBy (now w) (now objects) first (o .against) (o .partners) (o .other) ⌝ }
     ensures { λ r. ⌜ r ≡ passing (now (own .entry)) base stride (o .rows) (hasValue (now (w .entry)) (o .against) (o .partners) (o .other)) ⌝ }
 {
-    if !marked {
-        // Fewer marks than remainders: none are kept.
+    if !filtered {
+        // Fewer slots than remainders: no filter.
         return count_values(own, base, stride, w, objects, first, o, &[0u8; 1]);
     }
-    let mut marks = [0u8; 1024];
-    mark_values(w, o.against, o.partners, o.other, &mut marks);
-    count_values(own, base, stride, w, objects, first, o, &marks)
+    let mut slots = [0u8; 1024];
+    insert_values(w, o.against, o.partners, o.other, &mut slots);
+    count_values(own, base, stride, w, objects, first, o, &slots)
 }
 
-// How many rows a semi-join of predicate p against q leaves, by the columns that are compared. By their ranges all may be left; else both
+// How many rows a semi-join leaves, by the columns that are compared, whose ranges stand at a and b. By these all may be left; else both
 // columns are walked, where they ascend: the subjects in the rows, the objects in the copy.
 pub fn count_partnered(
     w: &[u32],
     objects: &[u32],
     first: usize,
     ranges: &[u32; 96],
-    p: usize,
-    q: usize,
+    a: usize,
+    b: usize,
     o: Operands,
 ) -> usize
-    requires { ⌜ Searchable (now w) (now objects) first (o .start) (o .rows) × (o .own < 2) × (o .own ≡ 1 → ObjectsSorted (now w) (now objects) first (o .start) (o .rows)) ⌝ }
-    requires { ⌜ Searchable (now w) (now objects) first (o .against) (o .partners) × (o .other < 2) × (o .other ≡ 1 → ObjectsSorted (now w) (now objects) first (o .against) (o .partners)) ⌝ }
-    requires { ⌜ (p < mostPredicates) × (q < mostPredicates) × ColumnRange (now w) (o .start) (o .rows) (o .own) (now ranges) (6 * p + 3 * o .own) × ColumnRange (now w) (o .against) (o .partners) (o .other) (now ranges) (6 * q + 3 * o .other) ⌝ }
-    ensures { λ r. ⌜ r ≡ length (semiJoin (kindOfColumns (o .own) (o .other)) (rowsIn (o .rows) (drop (o .start) (now (w .entry)))) (rowsIn (o .partners) (drop (o .against) (now (w .entry))))) ⌝ }
+    requires { ⌜ SearchableBy (now w) (now objects) first (o .start) (o .rows) (o .own) × SearchableBy (now w) (now objects) first (o .against) (o .partners) (o .other) ⌝ }
+    requires { ⌜ (a + 3 ≤ 96) × ColumnRange (now w) (o .start) (o .rows) (o .own) (now ranges) a ⌝ }
+    requires { ⌜ (b + 3 ≤ 96) × ColumnRange (now w) (o .against) (o .partners) (o .other) (now ranges) b ⌝ }
+    ensures { λ r. ⌜ r ≡ length (leftOf (now (w .entry)) o) ⌝ }
 {
-    let a = 6 * p + 3 * o.own;
-    let b = 6 * q + 3 * o.other;
     let lowest = ranges[a];
     let highest = ranges[a + 1];
     let partner_lowest = ranges[b];
@@ -117,10 +110,10 @@ pub fn count_partnered(
     if ranges[b + 2] == 1 && partner_lowest <= lowest && highest <= partner_highest {
         return o.rows;
     }
-    let marked = should_mark(ranges, b, o.partners);
+    let filtered = should_filter(ranges, b, o.partners);
     if o.own == 0 {
-        return count_marked(w, o.start, 2, w, objects, first, o, marked);
+        return count_filtered(w, o.start, 2, w, objects, first, o, filtered);
     }
     let copy = (o.start - first) / 2;
-    count_marked(objects, copy, 1, w, objects, first, o, marked)
+    count_filtered(objects, copy, 1, w, objects, first, o, filtered)
 }

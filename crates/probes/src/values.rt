@@ -1,34 +1,33 @@
 ghost use mathlib.Core.Path.{_≡_};
-ghost use Prim.Native.Nat.{_<_};
 ghost use lib.ListN.{drop};
 ghost use lib.Dec.{eqb};
 ghost use Rattle.model.specs.Lists.{any};
 ghost use Rattle.model.specs.Tables.{at};
 ghost use Rattle.model.specs.Store.{rowsIn};
 ghost use Rattle.tables.specs.Columns.{columnOf};
-ghost use Rattle.statistics.specs.IndexedTables.{Searchable, ObjectsSorted};
+ghost use Rattle.statistics.specs.IndexedTables.{SearchableBy};
 ghost use Rattle.statistics.specs.Ranges.{hasValue};
-ghost use Rattle.probes.specs.Marks.{Marked};
-use crate::marks::is_marked;
+ghost use Rattle.probes.specs.OneHashFilter.{ContainsAll};
+use crate::one_hash_filter::may_contain;
 use searching::search::has_word;
 
 // Whether some of the n rows at `start` has a value at a column: by search in the rows where it is the subject, else in their objects'
-// sorted copy, which has a word for each row behind `first`. A value that is not marked is not searched.
+// sorted copy, which has a word for each row behind `first`. A value that the filter does not contain is not searched.
 pub fn has_partner(
     w: &[u32],
     objects: &[u32],
     first: usize,
-    marks: &[u8],
+    slots: &[u8],
     start: usize,
     n: usize,
     column: usize,
     value: u32,
 ) -> bool
-    requires { ⌜ Searchable (now w) (now objects) first start n × (column < 2) × (column ≡ 1 → ObjectsSorted (now w) (now objects) first start n) ⌝ }
-    requires { ⌜ Marked (hasValue (now w) start n column) (now marks) ⌝ }
+    requires { ⌜ SearchableBy (now w) (now objects) first start n column ⌝ }
+    requires { ⌜ ContainsAll (hasValue (now w) start n column) (now slots) ⌝ }
     ensures { λ r. ⌜ r ≡ any (λ s. eqb value (at (columnOf column) s)) (rowsIn n (drop start (now (w .entry)))) ⌝ }
 {
-    if !is_marked(marks, value) {
+    if !may_contain(slots, value) {
         return false;
     }
     if column == 0 {

@@ -1,9 +1,8 @@
 ghost use mathlib.Core.Path.{_≡_};
-ghost use Prim.Native.Nat.{ℕ, _<_, _≤_, _+_, _*_};
-ghost use lib.ListN.{length};
-ghost use Rattle.searching.specs.Search.{wordAt, Ascending, hasWord};
-ghost use Rattle.probes.specs.Marks.{Marked};
-use crate::marks::is_marked;
+ghost use Prim.Native.Nat.{ℕ};
+ghost use Rattle.searching.specs.Search.{SortedRun, FirstBelow, hasWord};
+ghost use Rattle.probes.specs.OneHashFilter.{ContainsAll};
+use crate::one_hash_filter::may_contain;
 use searching::search::lower_bound_from;
 
 // The place that a walk has come to, and whether the value is there.
@@ -13,22 +12,22 @@ pub struct Met {
 }
 
 // Whether one of n ascending words has a value, by a walk from a place before which all words are below it; for a value that is not
-// marked the walk does not go on.
+// contained in the filter the walk does not go on.
 pub fn walk_to(
     words: &[u32],
     base: usize,
     stride: usize,
     n: usize,
-    marks: &[u8],
+    slots: &[u8],
     from: usize,
     value: u32,
 ) -> Met
-    requires { ⌜ (0 < stride) × (base + stride * n ≤ length (now words)) × Ascending (now words) base stride n × Marked (hasWord (now words) base stride n) (now marks) ⌝ }
-    requires { ⌜ (from ≤ n) × ((i : ℕ) → i < from → wordAt (now words) base stride i < value) ⌝ }
+    requires { ⌜ SortedRun (now words) base stride n × ContainsAll (hasWord (now words) base stride n) (now slots) ⌝ }
+    requires { ⌜ FirstBelow (now words) base stride n value from ⌝ }
     ensures { λ r. ⌜ r .found ≡ hasWord (now (words .entry)) base stride n value ⌝ }
-    ensures { λ r. ⌜ (r .place ≤ n) × ((i : ℕ) → i < r .place → wordAt (now (words .entry)) base stride i < value) ⌝ }
+    ensures { λ r. ⌜ FirstBelow (now (words .entry)) base stride n value (r .place) ⌝ }
 {
-    if !is_marked(marks, value) {
+    if !may_contain(slots, value) {
         return Met {
             place: from,
             found: false,

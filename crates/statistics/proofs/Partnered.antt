@@ -16,11 +16,11 @@ use Rattle.model.proofs.Below.{below-last}
 use Rattle.model.proofs.Membership.{any-same, filter-same}
 use Rattle.model.proofs.PlanFile.{eqb-comm}
 use Rattle.model.proofs.Counting.{filter-count, num, count, count-append}
-use Rattle.searching.specs.Search.{wordAt, hasWord}
+use Rattle.searching.specs.Search.{wordAt, SortedRun, hasWord}
 use Rattle.tables.specs.Columns.{columnOf, kindOfColumns}
 use Rattle.model.proofs.Rows.{rowAt, rows-at}
 use Rattle.tables.proofs.Partners.{hasPartner, at-column}
-use Rattle.statistics.specs.IndexedTables.{passing, SameValues}
+use Rattle.statistics.specs.IndexedTables.{passing, SameValues, copyAt, Searchable, ObjectsSorted}
 use Rattle.statistics.specs.Ranges.{hasValue}
 
 -- ---- lists
@@ -79,6 +79,11 @@ same-subjects words start n h = record { as-often = λ test. go test n h }
         ap (λ (i : ℕ). passing words start 2 i test) (sym (add-one k))
         ∙ passing-more words start 2 k test
         ∙ rw (go test k (omega arith), ← add-one k, rows-at words start k 0 (omega arith)) (omega (arith, filter-count p rows, filter-count p (rows ++ more), count-append p rows more))
+
+-- the sorted objects are a run of the copy
+pub objects-run : {words objects : List ℕ} {first start n : ℕ} → Searchable words objects first start n → ObjectsSorted words objects first start n
+    → SortedRun objects (copyAt words objects first start) 1 n
+objects-run table sorted = record { spaced = omega arith; inside = omega (arith, table .copied); ascending = sorted .objects-ascend }
 
 -- ---- partners
 

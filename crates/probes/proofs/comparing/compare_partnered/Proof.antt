@@ -1,29 +1,28 @@
--- The values are not marked, or they are.
+-- Without a filter, or with one.
 use mathlib.Core.Path.{refl}
 use borrow.Author.Needs.{needs}
-use Rattle.probes.proofs.Marking.{few-marked}
+use Rattle.probes.proofs.Containing.{contains-unfiltered}
 use Rattle.probes.proofs.comparing.compare_partnered.Statement.{statement}
 use Rattle.probes.proofs.comparing.compare_partnered.Tie as tie
 
-slice-aggregate-compare-marked : tie.Need-slice-aggregate-compare-marked
-slice-aggregate-compare-marked c = search needs
+slice-aggregate-compare-filtered : tie.Need-slice-aggregate-compare-filtered
+slice-aggregate-compare-filtered c = search needs
 
-compare-marked-requires : tie.Need-compare-marked-requires
-compare-marked-requires c κs =
-    let pre = c .before .before .before .before .pre in
-    (pre .0, (few-marked _ refl, pre .1))
+compare-filtered-requires : tie.Need-compare-filtered-requires
+compare-filtered-requires c κs =
+    (c .before .before .before .before .pre, contains-unfiltered _ refl)
 
 returns : tie.Need-returns
 returns c = search needs
 
-mark-values-requires : tie.Need-mark-values-requires
-mark-values-requires c κs = search needs
+insert-values-requires : tie.Need-insert-values-requires
+insert-values-requires c κs = search needs
 
-slice-aggregate-compare-marked-2 : tie.Need-slice-aggregate-compare-marked-2
-slice-aggregate-compare-marked-2 c = search needs
+slice-aggregate-compare-filtered-2 : tie.Need-slice-aggregate-compare-filtered-2
+slice-aggregate-compare-filtered-2 c = search needs
 
-compare-marked-requires-2 : tie.Need-compare-marked-requires-2
-compare-marked-requires-2 c κs = search needs
+compare-filtered-requires-2 : tie.Need-compare-filtered-requires-2
+compare-filtered-requires-2 c κs = search needs
 
 returns-2 : tie.Need-returns-2
 returns-2 c = search needs
@@ -32,10 +31,10 @@ pub compare-partnered-spec : {M : Type 1} → statement M
 compare-partnered-spec =
     tie.close
     (tie.spec
-    slice-aggregate-compare-marked
-    compare-marked-requires
+    slice-aggregate-compare-filtered
+    compare-filtered-requires
     returns
-    mark-values-requires
-    slice-aggregate-compare-marked-2
-    compare-marked-requires-2
+    insert-values-requires
+    slice-aggregate-compare-filtered-2
+    compare-filtered-requires-2
     returns-2)

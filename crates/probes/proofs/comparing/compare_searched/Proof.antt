@@ -19,10 +19,10 @@ use Rattle.probes.proofs.comparing.compare_searched.Statement.{statemen
 use Rattle.probes.proofs.comparing.compare_searched.Tie as tie
 
 abbrev Inv-loop : tie.InvT-loop
-Inv-loop w objects first marks at k p m own q n other end next₀ i₀ next i = (i ≤ m) × Compared w at k (leftRows w p i own q n other) next
+Inv-loop w objects first slots at k p m own q n other end next₀ i₀ next i = (i ≤ m) × Compared w at k (leftRows w p i own q n other) next
 
 abbrev μ-loop : tie.MeasureT-loop
-μ-loop w objects first marks at k p m own q n other end next₀ i₀ next i = m - i
+μ-loop w objects first slots at k p m own q n other end next₀ i₀ next i = m - i
 
 -- what is answered is whether row i has a partner
 answer : (c : tie.After-has-partner Inv-loop μ-loop) →
@@ -31,7 +31,7 @@ answer : (c : tie.After-has-partner Inv-loop μ-loop) →
     hasPartner (args .w .now) (o .start) (c .before .before .before .loop .i) (o .own) (o .against) (o .partners) (o .other) ≡ c .has-partner .result
 answer c =
     let start = c .before .before .before .before .before .before .before in
-    partner-of-value _ _ _ _ _ _ _ (start .pre .0 .2) ∙ sym (c .has-partner .ensures)
+    partner-of-value _ _ _ _ _ _ _ (start .pre .0 .0 .own-column) ∙ sym (c .has-partner .ensures)
 
 -- the row at hand, among all that are left
 at-hand : (c : tie.Then1 Inv-loop μ-loop) →
@@ -73,14 +73,14 @@ has-partner-requires c κs = search needs
 stands-next-requires : tie.Need-stands-next-requires Inv-loop μ-loop
 stands-next-requires c κs =
     let outer = c .before .before .before .before in
-    (room-for-one _ _ _ (outer .before .before .before .before .pre .1 .1 .0) (outer .loop .inv .1), omega arith)
+    (room-for-one _ _ _ (outer .before .before .before .before .pre .0 .1) (outer .loop .inv .1), omega arith)
 
 returns : tie.Need-returns Inv-loop μ-loop
 unfolding leftRows
 returns c =
     let match = c .before .before in
     let outer = match .before .before .before .before in
-    not-next _ _ _ (outer .before .before .before .before .pre .1 .1 .0) (outer .loop .inv .1) _ (at-hand match) (sym (c .before .stands-next .ensures) ∙ not-true _ (c .if2 .taken))
+    not-next _ _ _ (outer .before .before .before .before .pre .0 .1) (outer .loop .inv .1) _ (at-hand match) (sym (c .before .stands-next .ensures) ∙ not-true _ (c .if2 .taken))
 
 add-next : tie.Need-add-next Inv-loop μ-loop
 add-next c = search needs
@@ -99,7 +99,7 @@ loop-again c =
       search needs,
       ⊎-elim
           (λ w.
-          let one-more = next-compared _ _ _ (start .pre .1 .1 .0) before _ (sym (w .1 .ensures) ∙ not-false _ (w .2 .left)) in
+          let one-more = next-compared _ _ _ (start .pre .0 .1) before _ (sym (w .1 .ensures) ∙ not-false _ (w .2 .left)) in
           rw (w .3, row-left _ _ _ _ _ _ _ (answer (c .before) ∙ w .0 .taken) (omega arith)) one-more)
           (λ w. rw (w .1, row-not-left _ _ _ _ _ _ _ (omega arith) (answer (c .before) ∙ w .0 .left)) before)
           (c .if1 .came),
@@ -110,7 +110,7 @@ unfolding leftRows
 returns-2 c =
     let start = c .before .before .before .before .before in
     let all : c .before .loop .i ≡ start .args .o .rows = omega arith in
-    verdict _ _ _ (start .pre .1 .1 .0) (rw all at (c .before .loop .inv .1))
+    verdict _ _ _ (start .pre .0 .1) (rw all at (c .before .loop .inv .1))
 
 pub compare-searched-spec : {M : Type 1} → statement M
 compare-searched-spec =

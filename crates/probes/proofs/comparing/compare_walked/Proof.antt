@@ -22,12 +22,12 @@ abbrev isAmong : List ℕ → ℕ → ℕ → ℕ → Row → Bool
 isAmong words base stride n row = hasWord words base stride n (row .0)
 
 abbrev Inv-loop : tie.InvT-loop
-Inv-loop w start m words base stride n marks at k end here₀ place₀ i₀ here place i =
+Inv-loop w start m words base stride n slots at k end here₀ place₀ i₀ here place i =
     (i ≤ m) × (place ≤ n) × Compared w at k (filteredRows w start i (isAmong words base stride n)) here
     × ((j l : ℕ) → j < place → i ≤ l → l < m → wordAt words base stride j < wordAt w start 2 l)
 
 abbrev μ-loop : tie.MeasureT-loop
-μ-loop w start m words base stride n marks at k end here₀ place₀ i₀ here place i = m - i
+μ-loop w start m words base stride n slots at k end here₀ place₀ i₀ here place i = m - i
 
 -- what is answered is whether the subject of row i is among the words
 answer : (c : tie.After-walk-to Inv-loop μ-loop) →
@@ -71,18 +71,18 @@ walk-to-requires : tie.Need-walk-to-requires Inv-loop μ-loop
 walk-to-requires c κs =
     let s = c .before .before .before .before .before .before in
     let inv = c .before .before .loop .inv in
-    (s .pre .1, (inv .1, λ j h. inv .3 j _ h (omega arith) (omega arith)))
+    (s .pre .1, record { within = inv .1; lower = λ j h. inv .3 j _ h (omega arith) (omega arith) })
 
 stands-next-requires : tie.Need-stands-next-requires Inv-loop μ-loop
 stands-next-requires c κs =
     let outer = c .before .before .before .before in
-    (room-for-one _ _ _ (outer .before .before .before .before .pre .0 .2) (outer .loop .inv .2), omega arith)
+    (room-for-one _ _ _ (outer .before .before .before .before .pre .0 .1) (outer .loop .inv .2), omega arith)
 
 returns : tie.Need-returns Inv-loop μ-loop
 returns c =
     let match = c .before .before in
     let outer = match .before .before .before .before in
-    not-next _ _ _ (outer .before .before .before .before .pre .0 .2) (outer .loop .inv .2) _ (at-hand match) (sym (c .before .stands-next .ensures) ∙ not-true _ (c .if2 .taken))
+    not-next _ _ _ (outer .before .before .before .before .pre .0 .1) (outer .loop .inv .2) _ (at-hand match) (sym (c .before .stands-next .ensures) ∙ not-true _ (c .if2 .taken))
 
 add-here : tie.Need-add-here Inv-loop μ-loop
 add-here c = search needs
@@ -102,21 +102,21 @@ loop-again c =
     let met = c .before .walk-to .ensures in
     let before = outer .loop .inv .2 in (
       search needs,
-      met .1 .0,
+      met .1 .within,
       ⊎-elim
           (λ w.
-          let one-more = next-compared _ _ _ (s .pre .0 .2) before (a .start + 2 * outer .loop .i) (sym (w .1 .ensures) ∙ not-false _ (w .2 .left)) in
+          let one-more = next-compared _ _ _ (s .pre .0 .1) before (a .start + 2 * outer .loop .i) (sym (w .1 .ensures) ∙ not-false _ (w .2 .left)) in
           rw (w .3, row-filtered-in (a .w .now) (a .start) (outer .loop .i) among (answer (c .before) ∙ w .0 .taken) (omega arith)) one-more)
           (λ w. rw (w .1, row-filtered-out (a .w .now) (a .start) (outer .loop .i) among (omega arith) (answer (c .before) ∙ w .0 .left)) before)
           (c .if1 .came),
-      λ j l h after in-rows. omega (arith, met .1 .1 j h, s .pre .0 .1 (outer .loop .i) l (omega arith) in-rows),
+      λ j l h after in-rows. omega (arith, met .1 .lower j h, s .pre .0 .0 .ascending (outer .loop .i) l (omega arith) in-rows),
     )
 
 returns-2 : tie.Need-returns-2 Inv-loop μ-loop
 returns-2 c =
     let start = c .before .before .before .before .before in
     let all : c .before .loop .i ≡ start .args .m = omega arith in
-    verdict _ _ _ (start .pre .0 .2) (rw all at (c .before .loop .inv .2))
+    verdict _ _ _ (start .pre .0 .1) (rw all at (c .before .loop .inv .2))
 
 pub compare-walked-spec : {M : Type 1} → statement M
 compare-walked-spec =

@@ -13,13 +13,13 @@ use Rattle.probes.proofs.counting.count_common.Statement.{statement}
 use Rattle.probes.proofs.counting.count_common.Tie as tie
 
 abbrev Inv-loop : tie.InvT-loop
-Inv-loop own from step m words base stride n marks kept₀ place₀ i₀ kept place i =
+Inv-loop own from step m words base stride n slots kept₀ place₀ i₀ kept place i =
     (i ≤ m) × (kept ≤ i) × (place ≤ n)
     × (kept ≡ passing own from step i (hasWord words base stride n))
     × ((j k : ℕ) → j < place → i ≤ k → k < m → wordAt words base stride j < wordAt own from step k)
 
 abbrev μ-loop : tie.MeasureT-loop
-μ-loop own from step m words base stride n marks kept₀ place₀ i₀ kept place i = m - i
+μ-loop own from step m words base stride n slots kept₀ place₀ i₀ kept place i = m - i
 
 loop-holds : tie.Need-loop-holds Inv-loop μ-loop
 unfolding passing
@@ -27,7 +27,7 @@ loop-holds c = (omega arith, omega arith, omega arith, refl, λ j k h l b. absur
 
 -- each own word stands in its slice
 own-inside : {i : ℕ} (c : tie.Start Inv-loop μ-loop) → i < c .args .m → c .args .from + c .args .step * i < length (c .args .own .now)
-own-inside c h = word-inside (c .args .from) (c .args .step) (c .pre .0 .0) h (c .pre .0 .1)
+own-inside c h = word-inside (c .pre .0) h
 
 mul-value : tie.Need-mul-value Inv-loop μ-loop
 mul-value c = omega (arith, own-inside (c .before .before .before .before .before) (c .loop-test .taken))
@@ -45,7 +45,7 @@ walk-to-requires : tie.Need-walk-to-requires Inv-loop μ-loop
 walk-to-requires c κs =
     let s = c .before .before .before .before .before .before in
     let inv = c .before .before .loop .inv in
-    (s .pre .1, (inv .2, λ j h. inv .4 j _ h (omega arith) (omega arith)))
+    (s .pre .1, record { within = inv .2; lower = λ j h. inv .4 j _ h (omega arith) (omega arith) })
 
 add-kept : tie.Need-add-kept Inv-loop μ-loop
 add-kept c = omega arith
@@ -66,12 +66,12 @@ loop-again c =
     let more = passing-more (a .own .now) (a .from) (a .step) (l .loop .i) among in (
       omega arith,
       ⊎-elim (λ w. omega arith) (λ w. omega arith) (c .if1 .came),
-      met .1 .0,
+      met .1 .within,
       ⊎-elim
           (λ w. omega (arith, more, ap num (sym (met .0) ∙ w .0 .taken), l .loop .inv .3, w .1))
           (λ w. omega (arith, more, ap num (sym (met .0) ∙ w .0 .left), l .loop .inv .3, w .1))
           (c .if1 .came),
-      λ j k h after in-own. omega (arith, met .1 .1 j h, s .pre .0 .2 (l .loop .i) k (omega arith) in-own),
+      λ j k h after in-own. omega (arith, met .1 .lower j h, s .pre .0 .ascending (l .loop .i) k (omega arith) in-own),
     )
 
 returns : tie.Need-returns Inv-loop μ-loop

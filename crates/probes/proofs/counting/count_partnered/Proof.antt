@@ -1,33 +1,14 @@
 -- By the ranges all rows are left; else as many as the own words that are values of the partners.
-use Prim.Native.Nat.{_+_, _*_}
 use native.Mathlib.Omega.{arith}
 use native.Mathlib.Nat.{le-refl}
 use mathlib.Core.Path.{_≡_, sym, _∙_}
+use borrow.Author.Needs.{needs}
 use borrow.Author.Tests.{leb-true}
 use Rattle.tables.specs.LeftRows.{leftRows}
 use Rattle.statistics.proofs.ColumnRanges.{all-left}
-use Rattle.statistics.proofs.Partnered.{same-subjects, rows-left}
-use borrow.Author.Needs.{needs}
+use Rattle.statistics.proofs.Partnered.{same-subjects, objects-run, rows-left}
 use Rattle.probes.proofs.counting.count_partnered.Statement.{statement}
 use Rattle.probes.proofs.counting.count_partnered.Tie as tie
-
-mul-a : tie.Need-mul-a
-mul-a c = search needs
-
-mul-a-2 : tie.Need-mul-a-2
-mul-a-2 c = search needs
-
-add-a : tie.Need-add-a
-add-a c = search needs
-
-mul-b : tie.Need-mul-b
-mul-b c = search needs
-
-mul-b-2 : tie.Need-mul-b-2
-mul-b-2 c = search needs
-
-add-b : tie.Need-add-b
-add-b c = search needs
 
 mul-lowest : tie.Need-mul-lowest
 mul-lowest c = search needs
@@ -69,53 +50,51 @@ element-copy-out-if1 : tie.Need-element-copy-out-if1
 element-copy-out-if1 c = search needs
 
 returns : tie.Need-returns
-unfolding leftRows
 returns c =
+    let s = c .before .before .before .before .before .before .before .before .before .before in
+    let a = s .args in
+    let o = a .o in
+    let own = s .pre .0 .0 in
+    sym (all-left (a .w .now) (a .ranges .now) (a .a) (a .b) (o .start) (o .rows) (o .own) (o .against) (o .partners) (o .other) (own .small) (own .table .subjects .inside)
+    (s .pre .1 .0 .1) (s .pre .1 .1 .1) (c .before .before .if1 .taken) (leb-true _ _ (c .before .if2 .taken)) (leb-true _ _ (c .if3 .taken)) (o .rows) (le-refl _))
+
+should-filter-requires : tie.Need-should-filter-requires
+should-filter-requires c κs = search needs
+
+count-filtered-requires : tie.Need-count-filtered-requires
+count-filtered-requires c κs = search needs
+
+returns-2 : tie.Need-returns-2
+unfolding leftRows
+returns-2 c =
     let s = c .before .before .before .before .before .before .before .before .before .before .before .before in
     let a = s .args in
     let o = a .o in
-    sym (all-left (a .w .now) (a .ranges .now) (6 * a .p + 3 * o .own) (6 * a .q + 3 * o .other) (o .start) (o .rows) (o .own) (o .against) (o .partners) (o .other) (s .pre .0 .1) (s .pre .0 .0 .inside)
-    (s .pre .1 .1 .2) (s .pre .1 .1 .3) (c .before .before .if1 .taken) (leb-true _ _ (c .before .if2 .taken)) (leb-true _ _ (c .if3 .taken)) (o .rows) (le-refl _))
-
-should-mark-requires : tie.Need-should-mark-requires
-should-mark-requires c κs = search needs
-
-count-marked-requires : tie.Need-count-marked-requires
-count-marked-requires c κs = search needs
-
-returns-2 : tie.Need-returns-2
-returns-2 c =
-    let s = c .before .before .before .before .before .before .before .before .before .before .before .before .before .before in
-    let a = s .args in
-    let o = a .o in
-    rw (c .before .if4 .taken) (c .count-marked .ensures ∙ rows-left 0 (a .w .now) (o .against) (o .partners) (o .other) (same-subjects _ _ _ (s .pre .0 .0 .inside)))
+    rw (c .before .if4 .taken) (c .count-filtered .ensures ∙ rows-left 0 (a .w .now) (o .against) (o .partners) (o .other) (same-subjects _ _ _ (s .pre .0 .0 .table .subjects .inside)))
 
 sub-copy : tie.Need-sub-copy
 sub-copy c = search needs
 
-count-marked-requires-2 : tie.Need-count-marked-requires-2
-count-marked-requires-2 c κs =
-    let pre = c .before .before .before .before .before .before .before .before .before .before .before .before .before .before .pre in
-    ((omega arith, omega (arith, pre .0 .0 .copied), pre .0 .2 (omega (arith, pre .0 .1, c .before .if4 .left)) .objects-ascend), pre .1 .0)
+count-filtered-requires-2 : tie.Need-count-filtered-requires-2
+count-filtered-requires-2 c κs =
+    let pre = c .before .before .before .before .before .before .before .before .before .before .before .before .pre in
+    let own = pre .0 .0 in
+    (objects-run (own .table) (own .sorted (omega (arith, own .small, c .before .if4 .left))), pre .0 .1)
 
 returns-3 : tie.Need-returns-3
+unfolding leftRows
 returns-3 c =
-    let s = c .before .before .before .before .before .before .before .before .before .before .before .before .before .before .before in
+    let s = c .before .before .before .before .before .before .before .before .before .before .before .before .before in
     let a = s .args in
     let o = a .o in
-    let object : o .own ≡ 1 = omega (arith, s .pre .0 .1, c .before .before .if4 .left) in
-    rw object (c .count-marked2 .ensures ∙ rows-left 1 (a .w .now) (o .against) (o .partners) (o .other) (s .pre .0 .2 object .same-objects))
+    let own = s .pre .0 .0 in
+    let object : o .own ≡ 1 = omega (arith, own .small, c .before .before .if4 .left) in
+    rw object (c .count-filtered2 .ensures ∙ rows-left 1 (a .w .now) (o .against) (o .partners) (o .other) (own .sorted object .same-objects))
 
 pub count-partnered-spec : {M : Type 1} → statement M
 count-partnered-spec =
     tie.close
     (tie.spec
-    mul-a
-    mul-a-2
-    add-a
-    mul-b
-    mul-b-2
-    add-b
     mul-lowest
     element-copy-out-lowest
     add-highest
@@ -130,9 +109,9 @@ count-partnered-spec =
     mul-if1
     element-copy-out-if1
     returns
-    should-mark-requires
-    count-marked-requires
+    should-filter-requires
+    count-filtered-requires
     returns-2
     sub-copy
-    count-marked-requires-2
+    count-filtered-requires-2
     returns-3)

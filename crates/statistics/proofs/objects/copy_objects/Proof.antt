@@ -1,5 +1,5 @@
 -- The tables one by one. The invariant: the objects of each table passed that are reached are sorted, and the ranges are those of the columns.
-use Prim.Native.Nat.{ℕ, _+_, _*_, _-_, _/_, _≤_, _<_}
+use Prim.Native.Nat.{ℕ, _+_, _-_, _/_, _≤_, _<_}
 use native.Mathlib.Omega.{arith}
 use mathlib.Core.Path.{_≡_, refl, _∙_}
 use mathlib.Core.Bool.{true}
@@ -13,7 +13,7 @@ use Rattle.tables.specs.Entries.{TableEntryAt}
 use Rattle.tables.specs.SiteWords.{siteIn, ImageOf}
 use Rattle.tables.proofs.Images.{few-predicates, entry-inside}
 use Rattle.statistics.specs.IndexedTables.{AllSorted, CopyOf}
-use Rattle.statistics.specs.Ranges.{isGapless, rangeAt, AllMeasured}
+use Rattle.statistics.specs.Ranges.{isGapless, AllMeasured}
 use Rattle.statistics.proofs.ColumnRanges.{range-whole, measured-again, reached-by}
 use Rattle.statistics.proofs.Partnered.{same-answers}
 use Rattle.statistics.proofs.SearchableTables.{behind-first, part-fits, entry-run, all-searchable, sorted-more}

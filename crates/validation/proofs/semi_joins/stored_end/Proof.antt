@@ -18,17 +18,17 @@ add-end c = search needs
 returns : tie.Need-returns
 returns c = stored-wrong _ _ _ _ _ _ (λ x. ⊎-elim (λ w. w .taken (x .begins)) (λ w. not-both (w .1 .taken) (le-ltb _ _ (x .room))) (c .if1 .came))
 
-mul-should-mark : tie.Need-mul-should-mark
-mul-should-mark c = search needs
+mul-should-filter : tie.Need-mul-should-filter
+mul-should-filter c = search needs
 
-mul-should-mark-2 : tie.Need-mul-should-mark-2
-mul-should-mark-2 c = search needs
+mul-should-filter-2 : tie.Need-mul-should-filter-2
+mul-should-filter-2 c = search needs
 
-add-should-mark : tie.Need-add-should-mark
-add-should-mark c = search needs
+add-should-filter : tie.Need-add-should-filter
+add-should-filter c = search needs
 
-should-mark-requires : tie.Need-should-mark-requires
-should-mark-requires c κs = search needs
+should-filter-requires : tie.Need-should-filter-requires
+should-filter-requires c κs = search needs
 
 compare-partnered-requires : tie.Need-compare-partnered-requires
 compare-partnered-requires c κs =
@@ -49,10 +49,10 @@ stored-end-spec =
     mul-end
     add-end
     returns
-    mul-should-mark
-    mul-should-mark-2
-    add-should-mark
-    should-mark-requires
+    mul-should-filter
+    mul-should-filter-2
+    add-should-filter
+    should-filter-requires
     compare-partnered-requires
     returns-2
     returns-3)

@@ -1,23 +1,22 @@
--- The values are not marked, or they are.
+-- Without a filter, or with one.
 use mathlib.Core.Path.{refl}
 use borrow.Author.Needs.{needs}
-use Rattle.probes.proofs.Marking.{few-marked}
-use Rattle.probes.proofs.counting.count_marked.Statement.{statement}
-use Rattle.probes.proofs.counting.count_marked.Tie as tie
+use Rattle.probes.proofs.Containing.{contains-unfiltered}
+use Rattle.probes.proofs.counting.count_filtered.Statement.{statement}
+use Rattle.probes.proofs.counting.count_filtered.Tie as tie
 
 slice-aggregate-count-values : tie.Need-slice-aggregate-count-values
 slice-aggregate-count-values c = search needs
 
 count-values-requires : tie.Need-count-values-requires
 count-values-requires c κs =
-    let pre = c .before .before .before .before .before .pre in
-    (pre .0, (pre .1, few-marked _ refl))
+    (c .before .before .before .before .before .pre, contains-unfiltered _ refl)
 
 returns : tie.Need-returns
 returns c = search needs
 
-mark-values-requires : tie.Need-mark-values-requires
-mark-values-requires c κs = search needs
+insert-values-requires : tie.Need-insert-values-requires
+insert-values-requires c κs = search needs
 
 slice-aggregate-count-values-2 : tie.Need-slice-aggregate-count-values-2
 slice-aggregate-count-values-2 c = search needs
@@ -28,14 +27,14 @@ count-values-requires-2 c κs = search needs
 returns-2 : tie.Need-returns-2
 returns-2 c = search needs
 
-pub count-marked-spec : {M : Type 1} → statement M
-count-marked-spec =
+pub count-filtered-spec : {M : Type 1} → statement M
+count-filtered-spec =
     tie.close
     (tie.spec
     slice-aggregate-count-values
     count-values-requires
     returns
-    mark-values-requires
+    insert-values-requires
     slice-aggregate-count-values-2
     count-values-requires-2
     returns-2)
