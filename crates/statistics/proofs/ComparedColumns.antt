@@ -13,7 +13,7 @@ use Rattle.statistics.specs.Compared.{compares, areCompared}
 
 -- ---- numbers
 
-number-of : (n : ℕ) {column : Column} → n < 2 → columnOf n ≡ column → columnNumber column ≡ n
+pub number-of : (n : ℕ) {column : Column} → n < 2 → columnOf n ≡ column → columnNumber column ≡ n
 number-of zero h e = sym (ap columnNumber e)
 number-of (suc zero) h e = sym (ap columnNumber e)
 number-of (suc (suc n)) h e = absurd (omega arith)

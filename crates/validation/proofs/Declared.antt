@@ -45,18 +45,18 @@ declared-at : (w : List ℕ) (p i m : ℕ)
 declared-at w p zero m = rw (zero-add, getD-drop p w 0 0, getD-drop p w 1 0, drop-drop 3 p w) (simp add-zero)
 declared-at w p (suc i) m = rw (suc-add, drop-drop 3 p w, declared-at w (p + 3) i m, next-entry p i, next-entry p (suc i)) refl
 
-one-more : (w : List ℕ) (p i : ℕ) → declaredIn (i + 1) (drop p w) ≡ declaredIn i (drop p w) ++ entryAt w p i ∷ []
-one-more w p i = declared-at w p i 0
+declared-more : (w : List ℕ) (p i : ℕ) → declaredIn (i + 1) (drop p w) ≡ declaredIn i (drop p w) ++ entryAt w p i ∷ []
+declared-more w p i = declared-at w p i 0
 
 pub rows-more : (w : List ℕ) (p i : ℕ) → declaredRows (i + 1) (drop p w) ≡ declaredRows i (drop p w) + getD w (p + 3 * i + 1) 0
-rows-more w p i = rw (one-more w p i) (sum-snoc (λ d. d .1) (declaredIn i (drop p w)) (entryAt w p i))
+rows-more w p i = rw (declared-more w p i) (sum-snoc (λ d. d .1) (declaredIn i (drop p w)) (entryAt w p i))
 
 -- the term before entry i is the last of the first i
-last-term : (w : List ℕ) (p i t : ℕ) → 0 < i → aboveLast ltb (map (λ d. d .0) (declaredIn i (drop p w))) t ≡ ltb (getD w (p + 3 * i - 3) 0) t
-last-term w p i t l = go (i - 1) (omega arith) (omega arith)
+last-term : (w : List ℕ) (p i t : ℕ) → 0 < i → aboveLast ltb (map (λ d. d .0) (declaredIn i (drop p w))) t ≡ ltb (getD w (p + 3 * (i - 1)) 0) t
+last-term w p i t l = go (i - 1) (omega arith)
   where
-    go : (k : ℕ) → i ≡ k + 1 → p + 3 * i - 3 ≡ p + 3 * k → aboveLast ltb (map (λ d. d .0) (declaredIn i (drop p w))) t ≡ ltb (getD w (p + 3 * i - 3) 0) t
-    go k last term = rw (term, last, one-more w p k, map-append) (above-snoc ltb (map (λ d. d .0) (declaredIn k (drop p w))) (getD w (p + 3 * k) 0) t)
+    go : (k : ℕ) → i ≡ k + 1 → aboveLast ltb (map (λ d. d .0) (declaredIn i (drop p w))) t ≡ ltb (getD w (p + 3 * k) 0) t
+    go k last = rw (last, declared-more w p k, map-append) (above-snoc ltb (map (λ d. d .0) (declaredIn k (drop p w))) (getD w (p + 3 * k) 0) t)
 
 -- ---- the starts
 
@@ -75,11 +75,11 @@ three-words w p h =
 abbrev pub EntriesStand : List ℕ → ℕ → ℕ → Type 0
 EntriesStand w here i = take (3 * i) (drop 3 w) ≡ vpEntries here (declaredIn i (drop 3 w))
 
-pub one-stands : (w : List ℕ) (here i : ℕ) → vpEntryAt i + 2 < length w → EntriesStand w here i
+pub stands-more : (w : List ℕ) (here i : ℕ) → vpEntryAt i + 2 < length w → EntriesStand w here i
     → getD w (vpEntryAt i + 2) 0 ≡ here + 2 * declaredRows i (drop 3 w) → EntriesStand w here (i + 1)
-one-stands w here i h stand start =
+stands-more w here i h stand start =
     let three-more : 3 * (i + 1) ≡ 3 * i + 3 = omega arith in
-    rw (three-more, take-add (3 * i) 3 (drop 3 w), stand, one-more w 3 i, declared-snoc, drop-drop (3 * i) 3 w, ← start, three-words w (vpEntryAt i) h) refl
+    rw (three-more, take-add (3 * i) 3 (drop 3 w), stand, declared-more w 3 i, declared-snoc, drop-drop (3 * i) 3 w, ← start, three-words w (vpEntryAt i) h) refl
 
 -- ---- the two halves of what is asked
 
@@ -124,8 +124,8 @@ module _ (w : List ℕ) (count i : ℕ) (l : i < count) where
   pub not-term : mostTerm < getD w (vpEntryAt i) 0 → entriesProper count w ≡ false
   not-term t = entry-fails (rw (lt-leb (getD w (vpEntryAt i) 0) mostTerm t) refl)
 
-  pub not-ascending : 0 < i → getD w (vpEntryAt i) 0 ≤ getD w (vpEntryAt i - 3) 0 → entriesProper count w ≡ false
-  not-ascending later e = entry-fails (rw (last-term w 3 i (getD w (vpEntryAt i) 0) later, le-ltb (getD w (vpEntryAt i - 3) 0) (getD w (vpEntryAt i) 0) e, and-false) refl)
+  pub not-ascending : 0 < i → getD w (vpEntryAt i) 0 ≤ getD w (vpEntryAt (i - 1)) 0 → entriesProper count w ≡ false
+  not-ascending later e = entry-fails (rw (last-term w 3 i (getD w (vpEntryAt i) 0) later, le-ltb (getD w (vpEntryAt (i - 1)) 0) (getD w (vpEntryAt i) 0) e, and-false) refl)
 
   pub too-many-rows : mostRows < declaredRows i (drop 3 w) + getD w (vpEntryAt i + 1) 0 → entriesProper count w ≡ false
   too-many-rows t = entry-fails (rw (lt-leb (declaredRows i (drop 3 w) + getD w (vpEntryAt i + 1) 0) mostRows t, and-false) refl)
@@ -142,8 +142,8 @@ module _ (w : List ℕ) (count i : ℕ) (l : i < count) where
       ∙ entry-start (drop 3 w) (rowsStart count) i (count - suc i)
 
   pub entry-passes : declaredProper declaredBefore ≡ true → getD w (vpEntryAt i) 0 ≤ mostTerm
-      → (i ≡ 0) ⊎ ((0 < i) × (getD w (vpEntryAt i - 3) 0 < getD w (vpEntryAt i) 0))
+      → (i ≡ 0) ⊎ ((0 < i) × (getD w (vpEntryAt (i - 1)) 0 < getD w (vpEntryAt i) 0))
       → declaredRows i (drop 3 w) + getD w (vpEntryAt i + 1) 0 ≤ mostRows → declaredProper (declaredIn (i + 1) (drop 3 w)) ≡ true
   entry-passes proper term ascends few =
       let last = ⊎-elim (λ first. rw first refl) (λ x. last-term w 3 i (getD w (vpEntryAt i) 0) (x .0) ∙ lt-ltb _ _ (x .1)) ascends in
-      rw (one-more w 3 i) (longer declared-grow declaredBefore (entryAt w 3 i) proper (and-make (and-make (le-leb _ _ term) last) (le-leb _ _ few)))
+      rw (declared-more w 3 i) (longer declared-grow declaredBefore (entryAt w 3 i) proper (and-make (and-make (le-leb _ _ term) last) (le-leb _ _ few)))

@@ -13,8 +13,8 @@ use Rattle.model.specs.Store.{Reduced, isStoredTable, storedRows, tableWords}
 use Rattle.model.proofs.Booleans.{and-cases, and-make, not-both, to-false}
 use Rattle.probes.proofs.ComparedRows.{as-many}
 use Rattle.validation.specs.Joins.{storedHolds, joinHolds}
-use Rattle.validation.specs.declared.entries.Place.{Place}
-use Rattle.validation.specs.declared.entries.Place.the-variants.{At, Wrong}
+use Rattle.validation.specs.declared.entries.Extent.{Extent}
+use Rattle.validation.specs.declared.entries.Extent.the-variants.{Ends, Invalid}
 
 -- ---- rows that are stored
 
@@ -37,13 +37,17 @@ module _ (words : List ℕ) (rows : List Row) (start left here used : ℕ) where
   stored-hold x = and-make (eq-eqb _ _ (x .begins)) (and-make (le-leb _ _ (x .room)) (x .same))
 
   -- the answer that is given by them
-  abbrev pub storedEnd : Place
-  storedEnd = cond (storedHolds words rows start left here used) (At (here + 2 * left)) Wrong
+  abbrev pub storedEnd : Extent
+  storedEnd = cond (storedHolds words rows start left here used) (Ends (here + 2 * left)) Invalid
 
-  pub stored-wrong : (Stored → ⊥) → Wrong ≡ storedEnd
+  -- by equal rows, a start and a count
+  pub stored-same : {left' start' : ℕ} {rows' : List Row} → rows ≡ rows' → start ≡ start' → left ≡ left' → storedEnd ≡ cond (storedHolds words rows' start' left' here used) (Ends (here + 2 * left')) Invalid
+  stored-same a b c = rw (a, b, c) refl
+
+  pub stored-wrong : (Stored → ⊥) → Invalid ≡ storedEnd
   stored-wrong h = rw (to-false _ (λ e. h (are-stored e))) refl
 
-  pub stored-at : Stored → At (here + 2 * left) ≡ storedEnd
+  pub stored-at : Stored → Ends (here + 2 * left) ≡ storedEnd
   stored-at x = rw (stored-hold x) refl
 
 -- ---- a semi-join
@@ -75,13 +79,13 @@ module _ (t : ℕ) (words : List ℕ) (r : Reduced) (entry here used : ℕ) wher
   holds j = and-make (and-make (eq-eqb _ _ (j .count)) (eq-eqb _ _ (j .begins))) (and-make (le-leb _ _ (j .room)) (j .same))
 
   -- the answer that the test gives
-  abbrev pub end : Place
-  end = cond (joinHolds t words r entry here used) (At (here + 2 * length (storedRows t r))) Wrong
+  abbrev pub end : Extent
+  end = cond (joinHolds t words r entry here used) (Ends (here + 2 * length (storedRows t r))) Invalid
 
-  pub ends-wrong : (Held → ⊥) → Wrong ≡ end
+  pub ends-wrong : (Held → ⊥) → Invalid ≡ end
   ends-wrong h = rw (to-false _ (λ e. h (held e))) refl
 
-  ends-at : {place : ℕ} → Held → place ≡ here + 2 * length (storedRows t r) → At place ≡ end
+  ends-at : {place : ℕ} → Held → place ≡ here + 2 * length (storedRows t r) → Ends place ≡ end
   ends-at j e = rw (holds j, e) refl
 
   -- ---- rows that are stored, by the count that the entry gives
@@ -98,7 +102,7 @@ module _ (t : ℕ) (words : List ℕ) (r : Reduced) (entry here used : ℕ) wher
         let (known, all) = stored-all (j .count) in
         record { begins = rw known at (j .begins); room = rw (j .count, ← all) (j .room); same = rw (j .count, ← all) (j .same) }
 
-    at-end : Stored words (r .rows) start left here used → used ≤ length words → At (here + 2 * left) ≡ end
+    at-end : Stored words (r .rows) start left here used → used ≤ length words → Ends (here + 2 * left) ≡ end
     at-end x inside =
         let count : left ≡ length (r .rows) = sym (as-many words here left (omega (arith, x .room)) (r .rows) (x .same)) in
         let (known, all) = stored-all count in
@@ -110,7 +114,7 @@ module _ (t : ℕ) (words : List ℕ) (r : Reduced) (entry here used : ℕ) wher
     pub ends-stored : used ≤ length words → storedEnd words (r .rows) start left here used ≡ end
     ends-stored inside = go (storedHolds words (r .rows) start left here used) refl
       where
-        go : (b : Bool) → storedHolds words (r .rows) start left here used ≡ b → cond b (At (here + 2 * left)) Wrong ≡ end
+        go : (b : Bool) → storedHolds words (r .rows) start left here used ≡ b → cond b (Ends (here + 2 * left)) Invalid ≡ end
         go true e = at-end (are-stored _ _ _ _ _ _ e) inside
         go false e = ends-wrong (λ j. not-both (stored-hold _ _ _ _ _ _ (stored j)) e)
 
@@ -126,7 +130,7 @@ module _ (t : ℕ) (words : List ℕ) (r : Reduced) (entry here used : ℕ) wher
     pub not-stored : Held → start ≡ 0
     not-stored j = rw (stored-none (j .count) .0) at (j .begins)
 
-    pub ends-not-stored : left ≡ length (r .rows) → start ≡ 0 → here ≤ used → At here ≡ end
+    pub ends-not-stored : left ≡ length (r .rows) → start ≡ 0 → here ≤ used → Ends here ≡ end
     ends-not-stored count begins inside =
         let (known, none) = stored-none count in
         ends-at

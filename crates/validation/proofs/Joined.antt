@@ -23,8 +23,8 @@ use Rattle.model.proofs.Setting.{part-block}
 use Rattle.tables.proofs.Images.{entries-inside}
 use Rattle.validation.proofs.Join.{Held, held, holds}
 use Rattle.validation.specs.Joins.{joinHolds, joinsHold}
-use Rattle.validation.specs.declared.entries.Place.{Place}
-use Rattle.validation.specs.declared.entries.Place.the-variants.{At, Wrong}
+use Rattle.validation.specs.declared.entries.Extent.{Extent}
+use Rattle.validation.specs.declared.entries.Extent.the-variants.{Ends, Invalid}
 
 -- ---- words one behind the other
 
@@ -42,11 +42,11 @@ equal-words {ys = ys} e = rw e (words-same ys)
 
 -- ---- the answer about a semi-join
 
-ends-at : (b : Bool) (end next : ℕ) → cond b (At end) Wrong ≡ At next → (b ≡ true) × (end ≡ next)
+ends-at : (b : Bool) (end next : ℕ) → cond b (Ends end) Invalid ≡ Ends next → (b ≡ true) × (end ≡ next)
 ends-at true end next e = (refl, cc)
 ends-at false end next e = (cc, cc)
 
-ends-wrong : (b : Bool) (end : ℕ) → cond b (At end) Wrong ≡ Wrong → b ≡ false
+ends-wrong : (b : Bool) (end : ℕ) → cond b (Ends end) Invalid ≡ Invalid → b ≡ false
 ends-wrong true end e = cc
 ends-wrong false end e = refl
 
@@ -103,11 +103,11 @@ module _ (t count : ℕ) (words : List ℕ) (used : ℕ) where
         among = rw (length-all-of o) h
 
         -- the answer of `semi_join_end`
-        abbrev answer : Place
-        answer = cond (joinHolds t words next entry here used) (At (here + 2 * length (storedRows t next))) Wrong
+        abbrev answer : Extent
+        answer = cond (joinHolds t words next entry here used) (Ends (here + 2 * length (storedRows t next))) Invalid
 
         -- if this one holds, the first x + 1 do
-        pub joined-more : {r : Place} {end : ℕ} → r ≡ answer → r ≡ At end → Joined end (x + 1)
+        pub joined-more : {r : Extent} {end : ℕ} → r ≡ answer → r ≡ Ends end → Joined end (x + 1)
         joined-more {end = end} a e =
             let (held-here, same) = ends-at _ _ end (sym a ∙ e) in
             let one = held t words next entry here used held-here in
@@ -133,7 +133,7 @@ module _ (t count : ℕ) (words : List ℕ) (used : ℕ) where
             }
 
         -- if this one does not hold, not all do
-        pub one-fails : {r : Place} → r ≡ answer → r ≡ Wrong → joinsHold t count words used ≡ false
+        pub one-fails : {r : Extent} → r ≡ answer → r ≡ Invalid → joinsHold t count words used ≡ false
         one-fails a e = to-false _ (λ whole. not-both (holds t words next entry here used (one (all-held whole))) (ends-wrong _ _ (sym a ∙ e)))
           where
             one : AllHeld → Held t words next entry here used

@@ -6,3 +6,4 @@ pub mod Joined
 pub mod Turns
 pub mod Decoding
 pub mod EmptyPairs
+pub mod IndexedOperands

@@ -12,6 +12,8 @@ use Rattle.model.specs.Site.{Row, Table, Site, mostRows, rowsProper}
 use Rattle.model.specs.Store.{rowsStart, rowsIn, tablesIn, vpEntryAt}
 use Rattle.model.proofs.Booleans.{not-both, to-false}
 use Rattle.model.proofs.Growing.{longer, passed-inside, all-grows}
+use Rattle.tables.specs.declared.layout.TableEntry.{TableEntry}
+use Rattle.tables.specs.Entries.{TableEntryAt}
 use Rattle.tables.specs.SiteWords.{declaredRows, entriesProper, siteIn}
 use Rattle.validation.proofs.Declared.{next-entry, rows-more, count-split, rows-among, few-rows, start-proper}
 
@@ -58,10 +60,14 @@ module _ (w : List ℕ) (count i : ℕ) (l : i < count) (proper : entriesProper 
   rows-here : tableAt w 3 (rowsStart count) i .rows ≡ rowsHere
   rows-here = rw (start-proper w count i l proper) refl
 
-  -- they end inside
-  pub rows-end-inside : rowsStart count + 2 * declaredRows count (drop 3 w) ≤ length w
-      → getD w (vpEntryAt i + 2) 0 + 2 * getD w (vpEntryAt i + 1) 0 ≤ length w
-  rows-end-inside h = omega (arith, start-proper w count i l proper, rows-among w count i l)
+  -- as the entry is read
+  module _ (r : TableEntry) (entry : TableEntryAt w i r) where
+    -- they end inside
+    pub rows-end-inside : rowsStart count + 2 * declaredRows count (drop 3 w) ≤ length w → r .start + 2 * r .rows ≤ length w
+    rows-end-inside h = omega (arith, entry .start, entry .rows, start-proper w count i l proper, rows-among w count i l)
+
+    pub entry-rows : rowsProper (rowsIn (r .rows) (drop (r .start) w)) ≡ rowsProper rowsHere
+    entry-rows = rw (entry .start, entry .rows) refl
 
   pub table-passes : all tableTest tablesDone ≡ true → rowsProper rowsHere ≡ true → all tableTest (tablesIn (i + 1) (drop 3 w) (drop (rowsStart count) w)) ≡ true
   unfolding tablesIn

@@ -1,5 +1,5 @@
 -- The order of the semi-joins: for each p, each q, each k.
-use Prim.Native.Nat.{ℕ, _+_, _*_, _≤_, _<_}
+use Prim.Native.Nat.{ℕ, _+_, _-_, _*_, _≤_, _<_}
 use native.Mathlib.Omega.{arith}
 use mathlib.Core.Path.{_≡_, refl}
 use mathlib.Core.Logic.{_⊎_, inl, inr}
@@ -27,7 +27,7 @@ last-turn {count} {p} {q} {k} turn h =
     rw (all, no-partner, no-kind) (omega arith)
 
 -- the last kind of the same tables
-pub last-kind : {count p q k : ℕ} → Turn count p q k → p < count → Turn count p q 2
+pub last-kind : {count p q k : ℕ} → Turn count p q k → p < count → Turn count p q (kindCount - 1)
 last-kind turn h = record { own = turn .own; partner = turn .partner; kind = omega arith; behind = λ b. absurd (omega arith) }
 
 -- the kind after k, and with it the partner after q where k is the last

@@ -6,10 +6,11 @@ use lib.ListN.{length, getD, take, drop}
 use lib.Dec.{eqb, leb}
 use Rattle.model.specs.Lists.{all, sameWords}
 use Rattle.model.specs.Site.{Row}
-use Rattle.model.specs.Tables.{kindCount}
-use Rattle.model.specs.Store.{Reduced, semiJoins, isStoredTable, storedRows, tableWords, semiJoinEntries, storedStart, storedWords, vpEntryAt}
+use Rattle.model.specs.Tables.{kinds, kindCount}
+use Rattle.model.specs.Store.{Reduced, semiJoins, isStoredTable, storedRows, tableWords, semiJoinEntries, storedStart, storedWords, vpEntryAt, semiJoinEntryAt}
+use Rattle.tables.specs.Columns.{columnNumber}
 use Rattle.tables.specs.SiteWords.{siteIn}
-use Rattle.statistics.specs.Ranges.{apart}
+use Rattle.statistics.specs.Ranges.{rangeAt, apart}
 
 -- rows that are stored at `here`, where `start` says, `left` of them, which end at `used` or before
 unfoldable pub storedHolds : List ℕ → List Row → ℕ → ℕ → ℕ → ℕ → Bool
@@ -28,11 +29,11 @@ joinsHold t count words used =
     sameWords (take (2 * (count * (count * kindCount))) (drop (vpEntryAt count) words)) (semiJoinEntries t (storedStart site) (semiJoins site))
     && sameWords (take (used - storedStart site) (drop (storedStart site) words)) (storedWords t (semiJoins site))
 
--- at the first kind: the columns that the three kinds of p against q compare are apart, and the six words of their entries are 0
+-- the columns that each kind of p against q compares are apart
+unfoldable pub kindsApart : List ℕ → ℕ → ℕ → Bool
+kindsApart ranges p q = all (λ kind. apart ranges (rangeAt p (columnNumber (kind .0))) (rangeAt q (columnNumber (kind .1)))) kinds
+
+-- at the first kind: they are, and the words of the pair's entries are 0
 unfoldable pub emptyPair : ℕ → List ℕ → List ℕ → ℕ → ℕ → ℕ → Bool
 emptyPair count words ranges p q k =
-    eqb k 0
-    && (apart ranges (6 * p) (6 * q)
-    && (apart ranges (6 * p + 3) (6 * q)
-    && (apart ranges (6 * p) (6 * q + 3)
-    && all (eqb 0) (take (2 * kindCount) (drop (vpEntryAt count + 2 * ((p * count + q) * kindCount)) words)))))
+    eqb k 0 && (kindsApart ranges p q && all (λ x. leb x 0) (take (2 * kindCount) (drop (semiJoinEntryAt count p q 0) words)))

@@ -6,45 +6,48 @@ ghost use Rattle.model.specs.Lists.{all};
 ghost use Rattle.model.specs.Site.{mostPredicates, rowsProper};
 ghost use Rattle.model.specs.Store.{rowsStart};
 ghost use Rattle.tables.specs.SiteWords.{declaredRows, entriesProper, siteIn};
-ghost use Rattle.validation.specs.declared.entries.Place.the-variants.{At, Wrong};
+ghost use Rattle.validation.specs.declared.entries.Extent.the-variants.{Ends, Invalid};
 use tables::layout::rows_start;
+use tables::layout::table_entry;
 use tables::limits::MOST_ROWS;
 use tables::limits::MOST_TERM;
 use tables::row_order::rows_proper;
 
-// How far words are as they should be, or that they are not.
-pub enum Place {
-    At(usize),
-    Wrong,
+// Where words that are as they should be end, or that they are not.
+pub enum Extent {
+    Ends(usize),
+    Invalid,
 }
 
 // Where the rows of `count` predicates end, as their entries say.
-pub fn rows_end(w: &[u32], count: usize) -> Place
+pub fn rows_end(w: &[u32], count: usize) -> Extent
     requires { ⌜ (count ≤ mostPredicates) × (rowsStart count ≤ length (now w)) ⌝ }
-    ensures { λ r. ⌜ r ≡ cond (entriesProper count (now (w .entry))) (At (rowsStart count + 2 * declaredRows count (drop 3 (now (w .entry))))) Wrong ⌝ }
+    ensures { λ r. ⌜ r ≡ cond (entriesProper count (now (w .entry))) (Ends (rowsStart count + 2 * declaredRows count (drop 3 (now (w .entry))))) Invalid ⌝ }
 {
     let mut here = rows_start(count);
     let mut total: usize = 0;
+    let mut last: u32 = 0;
     for i in 0..count {
-        let entry = 3 + 3 * i;
-        let term = w[entry];
+        let table = table_entry(w, i);
+        let term = table.term;
         if MOST_TERM < term {
-            return Place::Wrong;
+            return Extent::Invalid;
         }
-        if 0 < i && term <= w[entry - 3] {
-            return Place::Wrong;
+        if 0 < i && term <= last {
+            return Extent::Invalid;
         }
-        let rows = w[entry + 1] as usize;
+        let rows = table.rows;
         if MOST_ROWS < total + rows {
-            return Place::Wrong;
+            return Extent::Invalid;
         }
-        if w[entry + 2] as usize != here {
-            return Place::Wrong;
+        if table.start != here {
+            return Extent::Invalid;
         }
+        last = term;
         total += rows;
         here += 2 * rows;
     }
-    Place::At(here)
+    Extent::Ends(here)
 }
 
 // Whether the rows of each predicate hold terms and ascend.
@@ -53,10 +56,8 @@ pub fn tables_proper(w: &[u32], count: usize) -> bool
     ensures { λ r. ⌜ r ≡ all (λ t. rowsProper (t .rows)) (siteIn count (now (w .entry))) ⌝ }
 {
     for i in 0..count {
-        let entry = 3 + 3 * i;
-        let rows = w[entry + 1] as usize;
-        let start = w[entry + 2] as usize;
-        if !rows_proper(w, start, rows) {
+        let table = table_entry(w, i);
+        if !rows_proper(w, table.start, table.rows) {
             return false;
         }
     }

@@ -1,4 +1,5 @@
 // Question 10: whether words are what some site and some T give.
-pub mod entries;
-pub mod semi_joins;
+mod empty_pairs;
+mod entries;
+mod semi_joins;
 pub mod store;

@@ -1,6 +1,6 @@
 ghost use mathlib.Core.Path.{_≡_};
 ghost use Rattle.model.specs.Store.{decoded, isStoreOf};
-use crate::entries::Place;
+use crate::entries::Extent;
 use crate::entries::rows_end;
 use crate::entries::tables_proper;
 use crate::semi_joins::semi_joins_hold;
@@ -30,7 +30,7 @@ pub fn is_store(w: &[u32]) -> bool
     if used < rows_start(count) {
         return false;
     }
-    let Place::At(first) = rows_end(w, count) else {
+    let Extent::Ends(first) = rows_end(w, count) else {
         return false;
     };
     if used < first {

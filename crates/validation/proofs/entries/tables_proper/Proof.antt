@@ -4,13 +4,12 @@ use native.Mathlib.Omega.{arith}
 use mathlib.Core.Path.{_≡_, refl, sym, _∙_}
 use mathlib.Core.Bool.{true}
 use lib.ListN.{drop}
-use mir.Facts.{fits-widen}
 use borrow.Author.Needs.{needs}
 use borrow.Author.Tests.{not-true, not-false}
 use Rattle.model.specs.Lists.{all}
 use Rattle.model.specs.Site.{rowsProper}
 use Rattle.model.specs.Store.{rowsStart, tablesIn}
-use Rattle.validation.proofs.Tables.{rows-end-inside, table-passes, table-fails}
+use Rattle.validation.proofs.Tables.{rows-end-inside, entry-rows, table-passes, table-fails}
 use Rattle.validation.proofs.entries.tables_proper.Statement.{statement}
 use Rattle.validation.proofs.entries.tables_proper.Tie as tie
 
@@ -24,48 +23,22 @@ loop-holds : tie.Need-loop-holds Inv-loop μ-loop
 unfolding tablesIn
 loop-holds c = (search needs, refl)
 
-mul-entry : tie.Need-mul-entry Inv-loop μ-loop
-mul-entry c = search needs
-
-add-entry : tie.Need-add-entry Inv-loop μ-loop
-add-entry c = search needs
-
-add-rows : tie.Need-add-rows Inv-loop μ-loop
-add-rows c = search needs
-
-mul-rows : tie.Need-mul-rows Inv-loop μ-loop
-mul-rows c = search needs
-
-shared-slice-read-rows : tie.Need-shared-slice-read-rows Inv-loop μ-loop
-shared-slice-read-rows c = search needs
-
-cast-rows : tie.Need-cast-rows Inv-loop μ-loop
-cast-rows c = fits-widen tt (c .shared-slice-known2 .given _)
-
-add-start : tie.Need-add-start Inv-loop μ-loop
-add-start c = search needs
-
-mul-start : tie.Need-mul-start Inv-loop μ-loop
-mul-start c = search needs
-
-shared-slice-read-start : tie.Need-shared-slice-read-start Inv-loop μ-loop
-shared-slice-read-start c = search needs
-
-cast-start : tie.Need-cast-start Inv-loop μ-loop
-cast-start c = fits-widen tt (c .shared-slice-known3 .given _)
+table-entry-requires : tie.Need-table-entry-requires Inv-loop μ-loop
+table-entry-requires c κs = search needs
 
 rows-proper-requires : tie.Need-rows-proper-requires Inv-loop μ-loop
 rows-proper-requires c κs =
-    let turn = c .before .before in
+    let turn = c .before in
     let asked = turn .before .before .before .pre in
-    rows-end-inside _ _ _ (turn .loop-test .taken) (asked .1) (asked .2)
+    rows-end-inside _ _ _ (turn .loop-test .taken) (asked .1) _ (c .table-entry .ensures) (asked .2)
 
 returns : tie.Need-returns Inv-loop μ-loop
 returns c =
-    let turn = c .before .before .before .before in
-    sym
-    (table-fails _ _ _ (turn .loop-test .taken) (turn .before .before .before .pre .1)
-    (sym (c .before .rows-proper .ensures) ∙ not-true _ (c .if1 .taken)))
+    let entry = c .before .before in
+    let turn = entry .before in
+    let proper = turn .before .before .before .pre .1 in
+    let same = entry-rows _ _ _ (turn .loop-test .taken) proper _ (entry .table-entry .ensures) in
+    sym (table-fails _ _ _ (turn .loop-test .taken) proper (sym same ∙ sym (c .before .rows-proper .ensures) ∙ not-true _ (c .if1 .taken)))
 
 add-i : tie.Need-add-i Inv-loop μ-loop
 add-i c = search needs
@@ -75,9 +48,11 @@ loop-less c = search needs
 
 loop-again : tie.Need-loop-again Inv-loop μ-loop
 loop-again c =
-    let turn = c .before .before .before .before in
-    let passes = sym (c .before .rows-proper .ensures) ∙ not-false _ (c .if1 .left) in
-    (search needs, table-passes _ _ _ (turn .loop-test .taken) (turn .before .before .before .pre .1) (turn .before .loop .inv .1) passes)
+    let entry = c .before .before in
+    let turn = entry .before in
+    let proper = turn .before .before .before .pre .1 in
+    let same = entry-rows _ _ _ (turn .loop-test .taken) proper _ (entry .table-entry .ensures) in
+    (search needs, table-passes _ _ _ (turn .loop-test .taken) proper (turn .before .loop .inv .1) (sym same ∙ sym (c .before .rows-proper .ensures) ∙ not-false _ (c .if1 .left)))
 
 returns-2 : tie.Need-returns-2 Inv-loop μ-loop
 returns-2 c =
@@ -91,16 +66,7 @@ tables-proper-spec =
     Inv-loop
     μ-loop
     loop-holds
-    mul-entry
-    add-entry
-    add-rows
-    mul-rows
-    shared-slice-read-rows
-    cast-rows
-    add-start
-    mul-start
-    shared-slice-read-start
-    cast-start
+    table-entry-requires
     rows-proper-requires
     returns
     add-i

@@ -25,7 +25,7 @@ abbrev μ-loop : tie.MeasureT-loop
 abbrev start : tie.At-loop Inv-loop μ-loop → tie.Start Inv-loop μ-loop
 start l = l .before .before .before .before
 
--- what is known of the semi-joins that were asked: with them one more holds, or three
+-- what is known of the semi-joins that were asked: with them one more holds, or each kind of a pair
 step : (j : tie.Joined1 Inv-loop μ-loop) → let l = j .before .before .before in
     let a = start l .args in
     (l .loop .k ≤ j .if1 .k) × Turn (a .count) (l .loop .p) (l .loop .q) (j .if1 .k) × Joined (a .t) (a .count) (a .w .now) (a .used) (j .if1 .here) (semiJoinPlace (a .count) (l .loop .p) (l .loop .q) (j .if1 .k) + 1)
@@ -36,7 +36,7 @@ step j =
     let turn-of = j .before .before .loop-test .taken in
     ⊎-elim
     (λ w.
-    let (first, empty) = empty-pair (s .args .ranges .now) (s .pre .0 .0) (s .pre .1 .2) _ _ turn-of (turn .partner turn-of) _ (sym (j .before .is-empty-pair .ensures) ∙ w .0 .taken) in
+    let (first, empty) = empty-pair (s .args .ranges .now) (s .pre .0 .0) (s .pre .1 .measured) _ _ turn-of (turn .partner turn-of) _ (sym (j .before .is-empty-pair .ensures) ∙ w .0 .taken) in
     rw (w .1, w .2)
     (omega arith, last-kind turn turn-of, pair-joined _ _ _ (s .pre .0 .0) (s .pre .0 .4) _ _ turn-of (turn .partner turn-of) empty (rw first at (l .loop .inv .1))))
     (λ w.
@@ -70,7 +70,7 @@ is-empty-pair-requires : tie.Need-is-empty-pair-requires Inv-loop μ-loop
 is-empty-pair-requires c κs =
     let l = c .before in
     let s = start l in
-    (s .pre .0 .0, c .loop-test .taken, l .loop .inv .0 .partner (c .loop-test .taken), s .pre .1 .2)
+    (s .pre .0 .0, c .loop-test .taken, l .loop .inv .0 .partner (c .loop-test .taken))
 
 sub-k : tie.Need-sub-k Inv-loop μ-loop
 sub-k c = omega arith
@@ -83,7 +83,7 @@ semi-join-end-requires c κs =
     let inv = l .loop .inv in
     let turn-of = i .loop-test .taken in (
       (s .pre .0 .0, turn-of, inv .0 .partner turn-of, inv .0 .kind, s .pre .0 .1, inv .1 .room, s .pre .0 .4),
-      (s .pre .1 .0, s .pre .1 .1, s .pre .1 .2, l .before .rows-start .ensures),
+      (s .pre .1, l .before .rows-start .ensures),
     )
 
 enum-known-next : tie.Need-enum-known-next Inv-loop μ-loop

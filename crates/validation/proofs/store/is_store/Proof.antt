@@ -10,7 +10,7 @@ use Rattle.model.specs.Store.{decoded, isStoreOf}
 use Rattle.tables.specs.SiteWords.{entriesProper}
 use Rattle.model.proofs.Booleans.{to-false, not-both}
 use Rattle.validation.proofs.Decoding.{rowsEnd, Parts, parts, stored-start, words-image, rows-good, rows-bad}
-use Rattle.validation.specs.declared.entries.Place.the-variants.{At, Wrong}
+use Rattle.validation.specs.declared.entries.Extent.the-variants.{Ends, Invalid}
 use borrow.Author.Needs.{needs}
 use Rattle.validation.proofs.store.is_store.Statement.{statement}
 use Rattle.validation.proofs.store.is_store.Tie as tie
@@ -20,11 +20,11 @@ no-store : (w : List ℕ) → (Parts w → ⊥) → false ≡ isStoreOf (decoded
 no-store w h = sym (to-false _ (λ e. h (parts w e)))
 
 -- what the answer of `rows_end` says
-was-wrong : (b : Bool) (n : ℕ) → cond b (At n) Wrong ≡ Wrong → b ≡ false
+was-wrong : (b : Bool) (n : ℕ) → cond b (Ends n) Invalid ≡ Invalid → b ≡ false
 was-wrong true n e = cc
 was-wrong false n e = refl
 
-was-at : (b : Bool) (n m : ℕ) → cond b (At n) Wrong ≡ At m → (b ≡ true) × (m ≡ n)
+was-at : (b : Bool) (n m : ℕ) → cond b (Ends n) Invalid ≡ Ends m → (b ≡ true) × (m ≡ n)
 was-at true n m e = (refl, cc)
 was-at false n m e = (cc, cc)
 
