@@ -3,22 +3,18 @@ use Prim.Native.Nat.{ℕ, zero, suc, _+_, _-_, _*_, _<_, _≤_}
 use native.Mathlib.Omega.{arith}
 use native.Mathlib.Numerals.{add-one}
 use mathlib.Core.Path.{_≡_, refl, sym}
-use mathlib.Core.Logic.{_⊎_, inl, inr, ⊎-elim}
-use mathlib.Core.Bool.{Bool, true, false, _&&_, and-true, and-assoc}
+use mathlib.Core.Logic.{⊎-elim}
+use mathlib.Core.Bool.{Bool, true, _&&_, and-true, and-assoc}
 use mathlib.Core.List.{List, [], _∷_}
 use lib.ListN.{length, getD, take, drop, length-drop}
 use lib.Seq.{take-suc, getD-take, getD-drop, length-take-le}
-use lib.Dec.{ltb}
-use borrow.Author.Tests.{ltb-true, ltb-false, lt-ltb}
 use Rattle.model.specs.Lists.{all, ascends, aboveLast}
-use Rattle.model.specs.Numbers.{mostTerm, isTerm}
+use Rattle.model.specs.Numbers.{isTerm}
 use Rattle.model.specs.Site.{Row, rowBefore, rowsProper}
 use Rattle.model.specs.Store.{tableWords, rowsIn}
-use Rattle.model.proofs.Booleans.{bool-cases, to-false}
 use Rattle.model.proofs.Membership.{all-append, from-all, at-place}
-use Rattle.model.proofs.Order.{head-first, by-head, by-tail, ascends-snoc}
+use Rattle.model.proofs.Order.{ascends-snoc}
 use Rattle.model.proofs.Growing.{above-snoc}
-use Rattle.tables.specs.RowNumbers.{rowNumber}
 use Rattle.model.proofs.Rows.{rowAt, rows-at, rows-words}
 
 module _ (test : ℕ → Bool) (w : List ℕ) (start : ℕ) where
@@ -55,21 +51,6 @@ pub row-more : (w : List ℕ) (p i : ℕ) → 0 < i → p + 2 * (i + 1) ≤ leng
     ≡ (ascends rowBefore (rowsIn i (drop p w)) && rowBefore (getD w (p + 2 * i - 2) 0, getD w (p + 2 * i - 1) 0) (getD w (p + 2 * i) 0, getD w (p + 2 * i + 1) 0))
 row-more w p i later h =
     rw (rows-at w p i 0 (omega arith), ascends-snoc rowBefore (rowsIn i (drop p w)) (rowAt w p i), last-row w p i (rowAt w p i) later (omega arith)) refl
-
--- ---- rows of terms as numbers
-
-module _ (s o t p : ℕ) (small : o ≤ mostTerm) (small-too : p ≤ mostTerm) where
-  pub number-before : rowNumber s o < rowNumber t p → rowBefore (s, o) (t, p) ≡ true
-  number-before h = go (bool-cases (ltb s t))
-    where
-      go : (ltb s t ≡ true) ⊎ (ltb s t ≡ false) → rowBefore (s, o) (t, p) ≡ true
-      go (inl l) = by-head s t (ltb o p) (ltb-true s t l)
-      go (inr l) = let same : s ≡ t = omega (arith, ltb-false s t l) in by-tail s t (ltb o p) same (lt-ltb o p (omega arith))
-
-  pub number-not-before : rowNumber t p ≤ rowNumber s o → rowBefore (s, o) (t, p) ≡ false
-  number-not-before h =
-      to-false (rowBefore (s, o) (t, p))
-      λ e. ⊎-elim (λ l. omega arith) (λ x. omega (arith, x .0, ltb-true o p (x .1))) (head-first s t (ltb o p) e)
 
 -- ---- both questions
 

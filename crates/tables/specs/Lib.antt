@@ -4,4 +4,3 @@ pub mod Columns
 pub mod Entries
 pub mod LeftRows
 pub mod SiteWords
-pub mod RowNumbers

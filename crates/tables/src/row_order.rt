@@ -1,12 +1,9 @@
 ghost use mathlib.Core.Path.{_≡_};
 ghost use Prim.Native.Nat.{_<_, _≤_, _+_, _*_};
-ghost use mathlib.Core.Bool.{true};
-ghost use lib.ListN.{length, take, drop};
-ghost use Rattle.model.specs.Lists.{all, ascends};
-ghost use Rattle.model.specs.Numbers.{mostTerm, isTerm};
+ghost use lib.ListN.{length, drop};
+ghost use Rattle.model.specs.Lists.{ascends};
 ghost use Rattle.model.specs.Site.{rowBefore, rowsProper};
 ghost use Rattle.model.specs.Store.{rowsIn};
-ghost use Rattle.tables.specs.RowNumbers.{rowNumber};
 use crate::bounds::all_at_most;
 use crate::limits::MOST_TERM;
 
@@ -17,24 +14,15 @@ pub fn row_before(s: u32, o: u32, t: u32, p: u32) -> bool
     s < t || (s == t && o < p)
 }
 
-// A row of terms as one number, of sixteen bits for each: the numbers are in the order of the rows.
-fn row_number(s: u32, o: u32) -> u32
-    requires { ⌜ (s ≤ mostTerm) × (o ≤ mostTerm) ⌝ }
-    ensures { λ r. ⌜ r ≡ rowNumber s o ⌝ }
-{
-    65536 * s + o
-}
-
-// Whether the n rows of terms at `start` strictly ascend; none ends the walk.
+// Whether the n rows at `start` strictly ascend. None ends the walk, so that several are compared at once.
 fn rows_ascend(w: &[u32], start: usize, n: usize) -> bool
-    requires { ⌜ (0 < n) × (start + 2 * n ≤ length (now w)) × (all isTerm (take (2 * n) (drop start (now w))) ≡ true) ⌝ }
+    requires { ⌜ (0 < n) × (start + 2 * n ≤ length (now w)) ⌝ }
     ensures { λ r. ⌜ r ≡ ascends rowBefore (rowsIn n (drop start (now (w .entry)))) ⌝ }
 {
     let mut ascending = true;
     for i in 1..n {
         let here = start + 2 * i;
-        let last = row_number(w[here - 2], w[here - 1]);
-        if row_number(w[here], w[here + 1]) <= last {
+        if !row_before(w[here - 2], w[here - 1], w[here], w[here + 1]) {
             ascending = false;
         }
     }

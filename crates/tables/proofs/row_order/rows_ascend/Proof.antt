@@ -1,18 +1,17 @@
 -- The invariant: `ascending` says whether the first i rows are.
-use Prim.Native.Nat.{ℕ, _+_, _-_, _*_, _<_, _≤_}
+use Prim.Native.Nat.{_-_, _<_, _≤_}
 use native.Mathlib.Omega.{arith}
-use mathlib.Core.Path.{_≡_, refl}
+use mathlib.Core.Path.{_≡_, refl, sym, _∙_}
 use mathlib.Core.Bool.{and-true, and-false}
 use mathlib.Core.Logic.{⊎-elim}
-use lib.ListN.{getD, drop}
+use lib.ListN.{drop}
 use borrow.Author.Needs.{needs}
-use borrow.Author.Tests.{leb-true}
+use borrow.Author.Tests.{not-true, not-false}
 use Rattle.model.specs.Lists.{ascends}
-use Rattle.model.specs.Numbers.{mostTerm, isTerm}
 use Rattle.model.specs.Site.{rowBefore}
 use Rattle.model.specs.Store.{rowsIn}
 use Rattle.model.proofs.Rows.{rows-at}
-use Rattle.tables.proofs.Proper.{row-more, word-passes, number-before, number-not-before}
+use Rattle.tables.proofs.Proper.{row-more}
 use Rattle.tables.proofs.row_order.rows_ascend.Statement.{statement}
 use Rattle.tables.proofs.row_order.rows_ascend.Tie as tie
 
@@ -21,13 +20,6 @@ Inv-loop w start n ascending₀ i₀ ascending i = (0 < i) × (i ≤ n) × (asce
 
 abbrev μ-loop : tie.MeasureT-loop
 μ-loop w start n ascending₀ i₀ ascending i = n - i
-
--- each word of the rows is a term
-term-at : (s : tie.Start Inv-loop μ-loop) (x : ℕ) → s .args .start ≤ x → x < s .args .start + 2 * s .args .n → getD (s .args .w .now) x 0 ≤ mostTerm
-term-at s x low high =
-    let a = s .args in
-    let place : a .start + (x - a .start) ≡ x = omega arith in
-    leb-true _ _ (rw place at (word-passes isTerm (a .w .now) (a .start) (2 * a .n) (x - a .start) (s .pre .1) (s .pre .2) (omega arith)))
 
 loop-holds : tie.Need-loop-holds Inv-loop μ-loop
 loop-holds c =
@@ -40,53 +32,41 @@ mul-here c = search needs
 add-here : tie.Need-add-here Inv-loop μ-loop
 add-here c = search needs
 
-sub-row-number : tie.Need-sub-row-number Inv-loop μ-loop
-sub-row-number c = search needs
+sub-row-before : tie.Need-sub-row-before Inv-loop μ-loop
+sub-row-before c = search needs
 
-mul-row-number : tie.Need-mul-row-number Inv-loop μ-loop
-mul-row-number c = search needs
+mul-row-before : tie.Need-mul-row-before Inv-loop μ-loop
+mul-row-before c = search needs
 
-shared-slice-read-row-number : tie.Need-shared-slice-read-row-number Inv-loop μ-loop
-shared-slice-read-row-number c = search needs
+shared-slice-read-row-before : tie.Need-shared-slice-read-row-before Inv-loop μ-loop
+shared-slice-read-row-before c = search needs
 
-sub-row-number-2 : tie.Need-sub-row-number-2 Inv-loop μ-loop
-sub-row-number-2 c = search needs
+sub-row-before-2 : tie.Need-sub-row-before-2 Inv-loop μ-loop
+sub-row-before-2 c = search needs
 
-mul-row-number-2 : tie.Need-mul-row-number-2 Inv-loop μ-loop
-mul-row-number-2 c = search needs
+mul-row-before-2 : tie.Need-mul-row-before-2 Inv-loop μ-loop
+mul-row-before-2 c = search needs
 
-shared-slice-read-row-number-2 : tie.Need-shared-slice-read-row-number-2 Inv-loop μ-loop
-shared-slice-read-row-number-2 c = search needs
+shared-slice-read-row-before-2 : tie.Need-shared-slice-read-row-before-2 Inv-loop μ-loop
+shared-slice-read-row-before-2 c = search needs
 
-row-number-requires : tie.Need-row-number-requires Inv-loop μ-loop
-row-number-requires c κs =
-    let l = c .before .before .before in
-    let s = l .before .before in
-    let later = l .loop .inv .0 in
-    let turn = c .before .before .loop-test .taken in
-    (term-at s _ (omega arith) (omega arith), term-at s _ (omega arith) (omega arith))
+mul-row-before-3 : tie.Need-mul-row-before-3 Inv-loop μ-loop
+mul-row-before-3 c = search needs
 
-mul-row-number-3 : tie.Need-mul-row-number-3 Inv-loop μ-loop
-mul-row-number-3 c = search needs
+shared-slice-read-row-before-3 : tie.Need-shared-slice-read-row-before-3 Inv-loop μ-loop
+shared-slice-read-row-before-3 c = search needs
 
-shared-slice-read-row-number-3 : tie.Need-shared-slice-read-row-number-3 Inv-loop μ-loop
-shared-slice-read-row-number-3 c = search needs
+add-row-before : tie.Need-add-row-before Inv-loop μ-loop
+add-row-before c = search needs
 
-add-row-number : tie.Need-add-row-number Inv-loop μ-loop
-add-row-number c = search needs
+mul-row-before-4 : tie.Need-mul-row-before-4 Inv-loop μ-loop
+mul-row-before-4 c = search needs
 
-mul-row-number-4 : tie.Need-mul-row-number-4 Inv-loop μ-loop
-mul-row-number-4 c = search needs
+shared-slice-read-row-before-4 : tie.Need-shared-slice-read-row-before-4 Inv-loop μ-loop
+shared-slice-read-row-before-4 c = search needs
 
-shared-slice-read-row-number-4 : tie.Need-shared-slice-read-row-number-4 Inv-loop μ-loop
-shared-slice-read-row-number-4 c = search needs
-
-row-number-requires-2 : tie.Need-row-number-requires-2 Inv-loop μ-loop
-row-number-requires-2 c κs =
-    let i = c .before .before .before .before .before in
-    let s = i .before .before .before in
-    let turn = i .loop-test .taken in
-    (term-at s _ (omega arith) (omega arith), term-at s _ (omega arith) (omega arith))
+row-before-requires : tie.Need-row-before-requires Inv-loop μ-loop
+row-before-requires c κs = search needs
 
 add-i : tie.Need-add-i Inv-loop μ-loop
 add-i c = search needs
@@ -96,21 +76,17 @@ loop-less c = search needs
 
 loop-again : tie.Need-loop-again Inv-loop μ-loop
 loop-again c =
-    let l = c .before .before .before .before .before .before .before .before in
-    let s = l .before .before in
-    let a = s .args in
-    let turn = c .before .before .before .before .before .before .before .loop-test .taken in
+    let called = c .before in
+    let l = called .before .before .before .before .before .before in
+    let a = l .before .before .args in
     let later = l .loop .inv .0 in
     let more = row-more (a .w .now) (a .start) (l .loop .i) later (omega arith) in
-    let last = c .before .before .before .before .row-number .ensures in
-    let now-number = c .before .row-number2 .ensures in
-    let small = term-at s (a .start + 2 * l .loop .i - 1) (omega arith) (omega arith) in
-    let small-too = term-at s (a .start + 2 * l .loop .i + 1) (omega arith) (omega arith) in (
+    let before = sym (called .row-before .ensures) in (
       omega arith,
       omega arith,
       ⊎-elim
-          (λ w. rw (w .1, more, number-not-before _ _ _ _ small small-too (rw (last, now-number) at (w .0 .taken)), and-false) refl)
-          (λ w. rw (w .1, more, number-before _ _ _ _ small small-too (rw (last, now-number) at (w .0 .left)), and-true) (l .loop .inv .2))
+          (λ w. rw (w .1, more, before ∙ not-true _ (w .0 .taken), and-false) refl)
+          (λ w. rw (w .1, more, before ∙ not-false _ (w .0 .left), and-true) (l .loop .inv .2))
           (c .if1 .came),
     )
 
@@ -128,19 +104,18 @@ rows-ascend-spec =
     loop-holds
     mul-here
     add-here
-    sub-row-number
-    mul-row-number
-    shared-slice-read-row-number
-    sub-row-number-2
-    mul-row-number-2
-    shared-slice-read-row-number-2
-    row-number-requires
-    mul-row-number-3
-    shared-slice-read-row-number-3
-    add-row-number
-    mul-row-number-4
-    shared-slice-read-row-number-4
-    row-number-requires-2
+    sub-row-before
+    mul-row-before
+    shared-slice-read-row-before
+    sub-row-before-2
+    mul-row-before-2
+    shared-slice-read-row-before-2
+    mul-row-before-3
+    shared-slice-read-row-before-3
+    add-row-before
+    mul-row-before-4
+    shared-slice-read-row-before-4
+    row-before-requires
     add-i
     loop-less
     loop-again
