@@ -3,17 +3,20 @@ use Prim.Native.Nat.{ℕ, zero, suc, _+_, _-_, _*_, _<_, _≤_}
 use native.Mathlib.Omega.{arith}
 use native.Mathlib.Numerals.{add-one}
 use mathlib.Core.Path.{_≡_, refl, sym}
-use mathlib.Core.Logic.{⊎-elim}
-use mathlib.Core.Bool.{Bool, true, _&&_, and-true, and-assoc}
+use mathlib.Core.Logic.{_⊎_, ⊎-elim}
+use mathlib.Core.Bool.{Bool, true, false, cond, _&&_, and-true, and-assoc}
 use mathlib.Core.List.{List, [], _∷_}
 use lib.ListN.{length, getD, take, drop, length-drop}
+use lib.Dec.{ltb, leb}
 use lib.Seq.{take-suc, getD-take, getD-drop, length-take-le}
+use borrow.Author.Tests.{ltb-true, ltb-false, lt-ltb, leb-true, leb-false}
 use Rattle.model.specs.Lists.{all, ascends, aboveLast}
 use Rattle.model.specs.Numbers.{isTerm}
 use Rattle.model.specs.Site.{Row, rowBefore, rowsProper}
 use Rattle.model.specs.Store.{tableWords, rowsIn}
+use Rattle.model.proofs.Booleans.{bool-cases, to-false}
 use Rattle.model.proofs.Membership.{all-append, from-all, at-place}
-use Rattle.model.proofs.Order.{ascends-snoc}
+use Rattle.model.proofs.Order.{head-first, by-head, by-tail, ascends-snoc}
 use Rattle.model.proofs.Growing.{above-snoc}
 use Rattle.model.proofs.Rows.{rowAt, rows-at, rows-words}
 
@@ -51,6 +54,27 @@ pub row-more : (w : List ℕ) (p i : ℕ) → 0 < i → p + 2 * (i + 1) ≤ leng
     ≡ (ascends rowBefore (rowsIn i (drop p w)) && rowBefore (getD w (p + 2 * i - 2) 0, getD w (p + 2 * i - 1) 0) (getD w (p + 2 * i) 0, getD w (p + 2 * i + 1) 0))
 row-more w p i later h =
     rw (rows-at w p i 0 (omega arith), ascends-snoc rowBefore (rowsIn i (drop p w)) (rowAt w p i), last-row w p i (rowAt w p i) later (omega arith)) refl
+
+-- ---- a row comes before another by a sum
+
+module _ (s o t p : ℕ) where
+  -- by how much the subject must be more
+  abbrev more : ℕ
+  more = cond (leb p o) 1 0
+
+  pub sum-before : s + more ≤ t → rowBefore (s, o) (t, p) ≡ true
+  sum-before h = go (leb p o) refl h
+    where
+      go : (b : Bool) → leb p o ≡ b → s + cond b 1 0 ≤ t → rowBefore (s, o) (t, p) ≡ true
+      go true e h = by-head s t (ltb o p) (omega arith)
+      go false e h = ⊎-elim (λ l. by-head s t (ltb o p) (ltb-true s t l)) (λ l. by-tail s t (ltb o p) (omega (arith, ltb-false s t l)) (lt-ltb o p (leb-false p o e))) (bool-cases (ltb s t))
+
+  pub sum-not-before : t < s + more → rowBefore (s, o) (t, p) ≡ false
+  sum-not-before h = to-false (rowBefore (s, o) (t, p)) λ e. go (leb p o) refl h (head-first s t (ltb o p) e)
+    where
+      go : (b : Bool) → leb p o ≡ b → t < s + cond b 1 0 → (s < t) ⊎ ((s ≡ t) × (ltb o p ≡ true)) → ⊥
+      go true e h before = ⊎-elim (λ l. omega arith) (λ x. omega (arith, x .0, ltb-true o p (x .1), leb-true p o e)) before
+      go false e h before = ⊎-elim (λ l. omega arith) (λ x. omega (arith, x .0)) before
 
 -- ---- both questions
 

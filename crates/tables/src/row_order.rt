@@ -1,7 +1,10 @@
 ghost use mathlib.Core.Path.{_≡_};
 ghost use Prim.Native.Nat.{_<_, _≤_, _+_, _*_};
-ghost use lib.ListN.{length, drop};
-ghost use Rattle.model.specs.Lists.{ascends};
+ghost use mathlib.Core.Bool.{true, cond};
+ghost use lib.ListN.{length, take, drop};
+ghost use lib.Dec.{leb};
+ghost use Rattle.model.specs.Lists.{all, ascends};
+ghost use Rattle.model.specs.Numbers.{mostTerm, isTerm};
 ghost use Rattle.model.specs.Site.{rowBefore, rowsProper};
 ghost use Rattle.model.specs.Store.{rowsIn};
 use crate::bounds::all_at_most;
@@ -14,15 +17,27 @@ pub fn row_before(s: u32, o: u32, t: u32, p: u32) -> bool
     s < t || (s == t && o < p)
 }
 
-// Whether the n rows at `start` strictly ascend. None ends the walk, so that several are compared at once.
+// Terms are below the half of what a word holds.
+const HALF: u32 = 2147483648;
+
+// 1 where a is at least b, else 0: by a difference, since a second comparison would keep rows from being asked several at once.
+fn at_least(a: u32, b: u32) -> u32
+    requires { ⌜ (a ≤ mostTerm) × (b ≤ mostTerm) ⌝ }
+    ensures { λ r. ⌜ (r ≡ cond (leb b a) 1 0) × (r ≤ 1) ⌝ }
+{
+    (HALF + a - b) / HALF
+}
+
+// Whether the n rows of terms at `start` strictly ascend: where objects do not, subjects must. None ends the walk.
 fn rows_ascend(w: &[u32], start: usize, n: usize) -> bool
-    requires { ⌜ (0 < n) × (start + 2 * n ≤ length (now w)) ⌝ }
+    requires { ⌜ (0 < n) × (start + 2 * n ≤ length (now w)) × (all isTerm (take (2 * n) (drop start (now w))) ≡ true) ⌝ }
     ensures { λ r. ⌜ r ≡ ascends rowBefore (rowsIn n (drop start (now (w .entry)))) ⌝ }
 {
     let mut ascending = true;
     for i in 1..n {
         let here = start + 2 * i;
-        if !row_before(w[here - 2], w[here - 1], w[here], w[here + 1]) {
+        let more = at_least(w[here - 1], w[here + 1]);
+        if w[here] < w[here - 2] + more {
             ascending = false;
         }
     }

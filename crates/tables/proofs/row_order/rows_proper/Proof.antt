@@ -23,7 +23,7 @@ all-at-most-requires c κs = search needs
 rows-ascend-requires : tie.Need-rows-ascend-requires
 rows-ascend-requires c κs =
     let h = c .before .before .if1 .left in
-    (omega arith, c .before .before .before .before .pre)
+    (omega arith, c .before .before .before .before .pre, sym (c .before .all-at-most .ensures) ∙ c .if2 .taken)
 
 returns-2 : tie.Need-returns-2
 returns-2 c =
