@@ -1,3 +1,4 @@
+pub mod KindColumns
 pub mod Groups
 pub mod Proper
 pub mod Partners

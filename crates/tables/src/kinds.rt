@@ -7,12 +7,17 @@ ghost use Rattle.tables.specs.Columns.{columnOf};
 // The kinds of semi-join: SS, OS, SO.
 pub const KINDS: usize = 3;
 
+// The column of the row in each kind, and that of its partner: a bit for each kind, from the lowest up, 0 for the subject, 1 for the object.
+const OWN_COLUMNS: usize = 0b010;
+
+const PARTNER_COLUMNS: usize = 0b100;
+
 // The column of the row in kind k.
 pub fn own_column(k: usize) -> usize
     requires { ⌜ k < kindCount ⌝ }
     ensures { λ r. ⌜ (r < 2) × (columnOf r ≡ kindAt k .0) ⌝ }
 {
-    if k == 1 { 1 } else { 0 }
+    (OWN_COLUMNS >> k) % 2
 }
 
 // The column of its partner.
@@ -20,7 +25,7 @@ pub fn partner_column(k: usize) -> usize
     requires { ⌜ k < kindCount ⌝ }
     ensures { λ r. ⌜ (r < 2) × (columnOf r ≡ kindAt k .1) ⌝ }
 {
-    if k == 2 { 1 } else { 0 }
+    (PARTNER_COLUMNS >> k) % 2
 }
 
 // A table of n rows, reduced from m, is stored at the threshold t: by the product, not by division.

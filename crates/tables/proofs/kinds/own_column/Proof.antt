@@ -1,22 +1,16 @@
--- Only kind 1 has the object as the row's column.
-use Prim.Native.Nat.{ℕ, zero, suc}
-use mathlib.Core.Path.{_≡_, refl}
+-- The bits are the row's columns, kind by kind.
+use native.Mathlib.Omega.{arith}
+use mathlib.Core.Path.{refl}
 use borrow.Author.Needs.{needs}
-use Rattle.model.specs.Tables.{subject, kindAt}
+use Rattle.tables.proofs.KindColumns.{column-of-kind}
 use Rattle.tables.proofs.kinds.own_column.Statement.{statement}
 use Rattle.tables.proofs.kinds.own_column.Tie as tie
 
-own-subject : (k : ℕ) → (k ≡ 1 → ⊥) → subject ≡ kindAt k .0
-own-subject zero other = refl
-own-subject (suc zero) other = absurd (other refl)
-own-subject (suc (suc zero)) other = refl
-own-subject (suc (suc (suc k))) other = refl
+shr-result : tie.Need-shr-result
+shr-result c = search needs
 
 returns : tie.Need-returns
-returns c = search needs
-
-returns-2 : tie.Need-returns-2
-returns-2 c = (search needs, own-subject (c .before .args .k) (c .if1 .left))
+returns c = (omega arith, column-of-kind (λ kind. kind .0) _ (c .args .k) refl (c .pre))
 
 pub own-column-spec : {M : Type 1} → statement M
-own-column-spec = tie.close (tie.spec returns returns-2)
+own-column-spec = tie.close (tie.spec shr-result returns)
