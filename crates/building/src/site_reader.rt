@@ -20,13 +20,13 @@ use tables::number::read_number;
 use tables::row_order::row_before;
 
 // How far bytes were taken, or the refusal's number.
-pub enum Taken {
+enum Taken {
     At(usize),
     Refused(u32),
 }
 
 // The declarations of `count` predicates, as entries from the third word on.
-pub fn read_declarations(s: &[u8], at: usize, count: usize, image: &mut [u32]) -> Taken
+fn read_declarations(s: &[u8], at: usize, count: usize, image: &mut [u32]) -> Taken
     requires { ⌜ (count ≤ mostPredicates) × (imageWords ≤ length (now image)) ⌝ }
     ensures { λ r. ⌜ TakenAs (repeated declaration count [] (drop at (now (s .entry)))) (λ ds. now (image .exit) ≡ sets (now (image .entry)) 3 (vpEntries (rowsStart count) ds)) (now (s .entry)) r ⌝ }
 {
@@ -61,7 +61,7 @@ pub fn read_declarations(s: &[u8], at: usize, count: usize, image: &mut [u32]) -
 }
 
 // The n rows of a table, as words from `to` on.
-pub fn read_rows(s: &[u8], at: usize, n: usize, image: &mut [u32], to: usize) -> Taken
+fn read_rows(s: &[u8], at: usize, n: usize, image: &mut [u32], to: usize) -> Taken
     requires { ⌜ to + 2 * n ≤ length (now image) ⌝ }
     ensures { λ r. ⌜ TakenAs (repeated row n [] (drop at (now (s .entry)))) (λ rs. now (image .exit) ≡ sets (now (image .entry)) to (tableWords rs)) (now (s .entry)) r ⌝ }
 {
@@ -94,7 +94,7 @@ pub fn read_rows(s: &[u8], at: usize, n: usize, image: &mut [u32], to: usize) ->
 }
 
 // The rows of the declared predicates, one table behind the other.
-pub fn read_tables(s: &[u8], at: usize, count: usize, image: &mut [u32]) -> Taken
+fn read_tables(s: &[u8], at: usize, count: usize, image: &mut [u32]) -> Taken
     requires { ⌜ (count ≤ mostPredicates) × (imageWords ≤ length (now image)) × (declaredRows count (drop 3 (now image)) ≤ mostRows) ⌝ }
     ensures { λ r. ⌜ TakenAs (tables (declaredIn count (drop 3 (now (image .entry)))) [] (drop at (now (s .entry)))) (λ site. now (image .exit) ≡ sets (now (image .entry)) (rowsStart count) (vpWords site)) (now (s .entry)) r ⌝ }
 {
