@@ -25,7 +25,7 @@ static size_t used;
 static uint8_t plan[16];
 static size_t plan_bytes;
 static uint64_t answer[4];
-static const struct bytes *check;
+static const struct named_file *check;
 static struct peer *peer;
 
 /* ---- what is timed */
@@ -33,32 +33,32 @@ static struct peer *peer;
 typedef void call(void);
 
 static void engine_build(void) {
-    closing_build(1000, workload.site.byte, workload.site.size, store, STORE_WORDS, answer);
+    closing_build(1000, workload.site.file.byte, workload.site.file.size, store, STORE_WORDS, answer);
 }
 
 /* A build is the same in each. */
 #define TIMED(way)                                                                                   \
-    static void way##_plans(void) { way##_plan(store, used, check->byte, check->size, plan, answer); } \
-    static void way##_runs(void) { way##_run(store, used, check->byte, check->size, plan, plan_bytes, rows, ROW_WORDS, answer); }
+    static void way##_plans(void) { way##_plan(store, used, check->file.byte, check->file.size, plan, answer); } \
+    static void way##_runs(void) { way##_run(store, used, check->file.byte, check->file.size, plan, plan_bytes, rows, ROW_WORDS, answer); }
 
 TIMED(search)
 TIMED(before)
 TIMED(best)
 
 static void c_build(void) {
-    search_build(1000, workload.site.byte, workload.site.size, store, STORE_WORDS, answer);
+    search_build(1000, workload.site.file.byte, workload.site.file.size, store, STORE_WORDS, answer);
 }
 
 static void peer_build(void) {
-    peer_close(peer_load(workload.site.byte, workload.site.size));
+    peer_close(peer_load(workload.site.file.byte, workload.site.file.size));
 }
 
 static void engine_plan(void) {
-    closing_plan(store, used, check->byte, check->size, plan, answer);
+    closing_plan(store, used, check->file.byte, check->file.size, plan, answer);
 }
 
 static void engine_run(void) {
-    closing_run(store, used, check->byte, check->size, plan, plan_bytes, rows, ROW_WORDS, answer);
+    closing_run(store, used, check->file.byte, check->file.size, plan, plan_bytes, rows, ROW_WORDS, answer);
 }
 
 static void peer_ask(void) {
@@ -116,7 +116,7 @@ static void time_calls(call *const f[ENGINES]) {
 }
 
 static void print_line(const char *name, long found) {
-    printf("%s\t%s\t%" PRIu32 "\t%s\t%u\t%ld", name, workload.site.name, workload.rows, check ? check->name : "", check ? check->byte[0] : 0u, found);
+    printf("%s\t%s\t%" PRIu32 "\t%s\t%u\t%ld", name, workload.site.name, workload.rows, check ? check->name : "", check ? check->file.byte[0] : 0u, found);
 }
 
 /* ---- the workloads */
@@ -124,7 +124,7 @@ static void print_line(const char *name, long found) {
 /* The rows that the engine gives are SQLite's; -1 where they do not fit. */
 static long rows_found(void) {
     static uint32_t other[ROW_WORDS];
-    uint32_t width = 0, number = closing_run(store, used, check->byte, check->size, plan, plan_bytes, rows, ROW_WORDS, answer);
+    uint32_t width = 0, number = closing_run(store, used, check->file.byte, check->file.size, plan, plan_bytes, rows, ROW_WORDS, answer);
     size_t found = peer_query(peer, other, ROW_WORDS, &width);
     long count = number == 21 ? -1 : answer[0] == CLOSING_ROWS ? (long)answer[1] : 0;
     if ((found == SIZE_MAX) != (count < 0) || (count >= 0 && ((long)found != count || memcmp(rows, other, 4 * found * width) != 0))) {
@@ -136,10 +136,10 @@ static long rows_found(void) {
 
 static void measure_check(void) {
     static uint8_t own[16];
-    closing_plan(store, used, check->byte, check->size, plan, answer);
+    closing_plan(store, used, check->file.byte, check->file.size, plan, answer);
     plan_bytes = 2 * (size_t)answer[1];
     memcpy(own, plan, sizeof own);
-    peer_prepare(peer, check->byte, check->size);
+    peer_prepare(peer, check->file.byte, check->file.size);
     long found = rows_found();
     print_line("plan", found);
     time_calls((call *const[]){engine_plan, search_plans, before_plans, best_plans, NULL, NULL});
@@ -153,10 +153,10 @@ static void measure_check(void) {
     }
 }
 
-static void print_bytes(const char *kind, const struct bytes *file) {
-    printf("%s\t%s\t", kind, file->name);
-    for (size_t i = 0; i < file->size; i++)
-        printf("%02x", file->byte[i]);
+static void print_bytes(const char *kind, const struct named_file *named) {
+    printf("%s\t%s\t", kind, named->name);
+    for (size_t i = 0; i < named->file.size; i++)
+        printf("%02x", named->file.byte[i]);
     printf("\n");
 }
 
@@ -179,7 +179,7 @@ int main(int argc, char **argv) {
         used = (size_t)answer[1];
         print_line("build", (long)used);
         time_calls((call *const[]){engine_build, c_build, NULL, NULL, peer_build, NULL});
-        peer = peer_load(workload.site.byte, workload.site.size);
+        peer = peer_load(workload.site.file.byte, workload.site.file.size);
         for (size_t c = 0; c < workload.checks; c++) {
             check = &workload.check[c];
             measure_check();

@@ -9,9 +9,9 @@ int main(void) {
     uint8_t plan[16];
     uint64_t answer[4];
     make_workload(0, &workload);
-    const struct bytes *check = &workload.check[0];
-    closing_build(1000, workload.site.byte, workload.site.size, store, 256, answer);
-    closing_plan(store, 256, check->byte, check->size, plan, answer);
-    closing_run(store, 256, check->byte, check->size, plan, 2 * (size_t)answer[1], rows, 64, answer);
+    const struct named_file *check = &workload.check[0];
+    closing_build(1000, workload.site.file.byte, workload.site.file.size, store, 256, answer);
+    closing_plan(store, 256, check->file.byte, check->file.size, plan, answer);
+    closing_run(store, 256, check->file.byte, check->file.size, plan, 2 * (size_t)answer[1], rows, 64, answer);
     return answer[0] == CLOSING_ROWS ? 0 : 1;
 }

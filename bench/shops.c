@@ -6,32 +6,21 @@
 
 /* ---- files */
 
-static void put_number(struct bytes *file, uint32_t value) {
-    while (value >= 0x80) {
-        file->byte[file->size++] = (uint8_t)((value & 0x7F) | 0x80);
-        value >>= 7;
-    }
-    file->byte[file->size++] = (uint8_t)value;
+/* An empty file of that name. */
+static struct file *begin_file(struct named_file *named, const char *name, uint32_t number) {
+    snprintf(named->name, sizeof named->name, name, (unsigned)number);
+    named->file.size = 0;
+    return &named->file;
 }
 
-static void name_file(struct bytes *file, const char *name, uint32_t number) {
-    file->size = 0;
-    snprintf(file->name, sizeof file->name, name, (unsigned)number);
+static void copy_bytes(struct file *file, const uint8_t *bytes, size_t size) {
+    memcpy(file->byte, bytes, file->size = size);
 }
 
 /* ---- checks: triple patterns of ?0 to ?7 and terms */
 
-static uint32_t variable(uint32_t v) {
-    return 2 * v + 1;
-}
-
-static uint32_t term(uint32_t t) {
-    return 2 * t;
-}
-
 static void add_check(struct workload *workload, const char *name, uint32_t count, const uint32_t triple[][3]) {
-    struct bytes *check = &workload->check[workload->checks++];
-    name_file(check, name, count);
+    struct file *check = begin_file(&workload->check[workload->checks++], name, count);
     put_number(check, count);
     for (uint32_t i = 0; i < count; i++)
         for (int column = 0; column < 3; column++)
@@ -111,29 +100,20 @@ static void add_shop_checks(struct workload *w, renaming *of) {
 
 /* ---- sites */
 
-struct row {
-    uint32_t subject, object;
-};
-
-static int compare_rows(const void *a, const void *b) {
-    const struct row *r = a, *q = b;
-    return r->subject != q->subject ? (r->subject > q->subject) - (r->subject < q->subject) : (r->object > q->object) - (r->object < q->object);
-}
-
 /* A shop of so many rows: three in ten are sensors that cover a door, and as many that sit in a zone; two in ten are doors with their
  * state, and as many sensors with their battery. One door in eight is open, one battery in eight is low. */
 static void make_shop(struct workload *w, const char *name, uint32_t rows, renaming *of) {
     static struct row row[1024];
     uint32_t sensors = rows * 3 / 10, doors = rows / 5, batteries = rows - 2 * sensors - doors, zones = 1 + rows / 40;
     const uint32_t count[4] = {sensors, sensors, doors, batteries};
-    name_file(&w->site, name, rows);
+    struct file *site = begin_file(&w->site, name, rows);
     w->rows = rows;
     memset(number_of, 0, sizeof number_of);
     next_number = BATTERY + 1;
-    put_number(&w->site, 4);
+    put_number(site, 4);
     for (uint32_t p = 0; p < 4; p++) {
-        put_number(&w->site, COVERS + p);
-        put_number(&w->site, count[p]);
+        put_number(site, COVERS + p);
+        put_number(site, count[p]);
     }
     for (uint32_t p = 0; p < 4; p++) {
         for (uint32_t r = 0; r < count[p]; r++) {
@@ -142,10 +122,8 @@ static void make_shop(struct workload *w, const char *name, uint32_t rows, renam
             row[r].object = of(object[p]);
         }
         qsort(row, count[p], sizeof *row, compare_rows);
-        for (uint32_t r = 0; r < count[p]; r++) {
-            put_number(&w->site, row[r].subject);
-            put_number(&w->site, row[r].object);
-        }
+        for (uint32_t r = 0; r < count[p]; r++)
+            put_row(site, row[r]);
     }
     add_shop_checks(w, of);
 }
@@ -154,28 +132,24 @@ static void make_shop(struct workload *w, const char *name, uint32_t rows, renam
 static void make_worked(struct workload *w) {
     static const uint8_t site[] = {3, 1, 3, 2, 2, 3, 2, 10, 20, 11, 21, 12, 21, 10, 30, 11, 30, 20, 40, 21, 41};
     static const uint8_t check[] = {3, 1, 2, 3, 1, 4, 5, 3, 6, 82};
-    name_file(&w->site, "worked shop", 0);
-    memcpy(w->site.byte, site, w->site.size = sizeof site);
+    copy_bytes(begin_file(&w->site, "worked shop", 0), site, sizeof site);
+    copy_bytes(begin_file(&w->check[0], "01's check", 0), check, sizeof check);
     w->rows = 7;
-    name_file(&w->check[0], "01's check", 0);
-    memcpy(w->check[0].byte, check, w->check[0].size = sizeof check);
     w->checks = 1;
 }
 
 /* Tables of so many predicates and rows each, whose subjects and objects have no partner in another table, or partners everywhere. */
 static void make_tables(struct workload *w, const char *name, uint32_t predicates, uint32_t each, int partners) {
-    name_file(&w->site, name, predicates);
+    struct file *site = begin_file(&w->site, name, predicates);
     w->rows = predicates * each;
-    put_number(&w->site, predicates);
+    put_number(site, predicates);
     for (uint32_t p = 0; p < predicates; p++) {
-        put_number(&w->site, p + 1);
-        put_number(&w->site, each);
+        put_number(site, p + 1);
+        put_number(site, each);
     }
     for (uint32_t p = 0; p < predicates; p++)
-        for (uint32_t r = 0; r < each; r++) {
-            put_number(&w->site, partners ? r + 1 : 100 + p * each + r);
-            put_number(&w->site, partners ? each - r : 10000 + p * each + r);
-        }
+        for (uint32_t r = 0; r < each; r++)
+            put_row(site, partners ? (struct row){r + 1, each - r} : (struct row){100 + p * each + r, 10000 + p * each + r});
     add_check(w, "one: all of a table", 1, (const uint32_t[][3]){{variable(0), term(1), variable(1)}});
     if (predicates > 1) {
         add_check(w, "path of 2", 2, (const uint32_t[][3]){{variable(0), term(1), variable(1)}, {variable(1), term(2), variable(2)}});

@@ -2,22 +2,20 @@
 #ifndef SHOPS_H
 #define SHOPS_H
 
-#include <stddef.h>
-#include <stdint.h>
+#include "files.h"
 
-enum { SITES = 12, CHECKS = 12, MOST_SITE_BYTES = 8192, MOST_CHECK_BYTES = 128 };
+enum { SITES = 12, CHECKS = 12 };
 
-struct bytes {
+struct named_file {
     char name[40];
-    size_t size;
-    uint8_t byte[MOST_SITE_BYTES];
+    struct file file;
 };
 
 struct workload {
-    struct bytes site;
+    struct named_file site;
     uint32_t rows;
     size_t checks;
-    struct bytes check[CHECKS];
+    struct named_file check[CHECKS];
 };
 
 /* The k-th of SITES: the worked shop, shops of 16, 64, 256 and 1,024 rows, the worst sites for semi-joins, and shops whose

@@ -20,20 +20,7 @@ static int one_in(uint32_t n) {
     return below(n) == 0;
 }
 
-/* ---- numbers in files; now and then one that is not in shortest form, or not whole */
-
-static void put_byte(struct file *file, uint32_t byte) {
-    if (file->size < SITE_BYTES)
-        file->byte[file->size++] = (uint8_t)byte;
-}
-
-static void put_number(struct file *file, uint32_t value) {
-    while (value >= 0x80) {
-        put_byte(file, (value & 0x7F) | 0x80);
-        value >>= 7;
-    }
-    put_byte(file, value);
-}
+/* ---- numbers that are not in shortest form or not whole, and other damage */
 
 static void put_bad_number(struct file *file) {
     static const uint8_t bad[4][3] = {{0x80, 0x00, 0x00}, {0x81, 0x80, 0x00}, {0x80, 0x80, 0x80}, {0xFF, 0xFF, 0xFF}};
@@ -72,11 +59,11 @@ struct shape {
 
 static struct shape make_shape(void) {
     struct shape shape = {.predicates = one_in(40) ? 16 : one_in(25) ? 0 : 1 + below(4)};
-    uint32_t term = below(3);
+    uint32_t next = below(3);
     for (uint32_t i = 0; i < shape.predicates; i++) {
-        shape.term[i] = term;
+        shape.term[i] = next;
         shape.count[i] = one_in(12) ? 0 : 1 + below(14);
-        term += 1 + (one_in(5) ? below(9000) / (shape.predicates + 1) : below(2));
+        next += 1 + (one_in(5) ? below(9000) / (shape.predicates + 1) : below(2));
     }
     if (one_in(150) && shape.predicates > 0)
         shape.count[0] = one_in(2) ? 1024 : 200 + below(300);
@@ -109,12 +96,12 @@ static void put_site(struct file *file, struct shape shape, enum fault fault) {
     if (fault == MANY_PREDICATES)
         return;
     for (uint32_t i = 0; i < shape.predicates; i++) {
-        uint32_t term = shape.term[i];
+        uint32_t predicate = shape.term[i];
         if (i == at && fault == WIDE_PREDICATE)
-            term = 65536 + below(1000);
+            predicate = 65536 + below(1000);
         if (i == at && fault == PREDICATE_NOT_ABOVE && i > 0)
-            term = shape.term[i - 1] - (shape.term[i - 1] > 0 ? below(2) : 0);
-        put_number(file, term);
+            predicate = shape.term[i - 1] - (shape.term[i - 1] > 0 ? below(2) : 0);
+        put_number(file, predicate);
         put_number(file, i == at && fault == MANY_ROWS ? 1025 + below(2000) : shape.count[i]);
     }
     for (uint32_t i = 0; i < shape.predicates; i++)
@@ -165,26 +152,26 @@ static void put_position(struct file *file, uint32_t *seen) {
     if (one_in(120))
         put_bad_number(file);
     else if (one_in(80))
-        put_number(file, 2 * (65536 + below(1000)));
+        put_number(file, term(65536 + below(1000)));
     else if (one_in(60))
-        put_number(file, 2 * (*seen + 1 + below(10)) + 1);
+        put_number(file, variable(*seen + 1 + below(10)));
     else if (one_in(6))
-        put_number(file, 2 * below(8));
+        put_number(file, term(below(8)));
     else {
-        uint32_t variable = below(*seen < 8 ? *seen + 1 : 8);
-        if (variable == *seen)
+        uint32_t v = below(*seen < 8 ? *seen + 1 : 8);
+        if (v == *seen)
             ++*seen;
-        put_number(file, 2 * variable + 1);
+        put_number(file, variable(v));
     }
 }
 
 static void put_predicate(struct file *file, const struct shape *shape) {
     if (shape->predicates == 0 || one_in(60))
-        put_number(file, 2 * below(20));
+        put_number(file, term(below(20)));
     else if (one_in(80))
-        put_number(file, one_in(2) ? 2 * (65536 + below(1000)) : 2 * below(10) + 1);
+        put_number(file, one_in(2) ? term(65536 + below(1000)) : variable(below(10)));
     else
-        put_number(file, 2 * shape->term[below(shape->predicates)]);
+        put_number(file, term(shape->term[below(shape->predicates)]));
 }
 
 static void make_pattern(struct input *input, const struct shape *shape) {

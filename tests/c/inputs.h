@@ -2,15 +2,9 @@
 #ifndef INPUTS_H
 #define INPUTS_H
 
-#include <stddef.h>
-#include <stdint.h>
+#include "files.h"
 
-enum { SITE_BYTES = 16384, PATTERN_BYTES = 192, PLAN_BYTES = 64, STORE_WORDS = 120000, ROW_WORDS = 4096 };
-
-struct file {
-    size_t size;
-    uint8_t byte[SITE_BYTES];
-};
+enum { STORE_WORDS = 120000, ROW_WORDS = 4096 };
 
 /* One input: a build; and a plan and a run over the store of a good site, which may be damaged. */
 struct input {

@@ -2,6 +2,7 @@
  * each store one word after another damaged. The build is compared with the reference word for word, and of each store whether a plan is
  * made, which one, or with which number it is refused. Seeded: every run is the same. */
 #include "closing.h"
+#include "files.h"
 #include "reference.h"
 
 #include <stdio.h>
@@ -10,10 +11,7 @@
 
 enum { SITES = 120, DAMAGES = 6, MOST_ROWS = 1024, MOST_PREDICATES = 16 };
 
-struct row { uint32_t subject, object; };
-
-static uint8_t site[8192];
-static size_t site_bytes;
+static struct file site;
 static struct row rows[MOST_PREDICATES][MOST_ROWS];
 static size_t count[MOST_PREDICATES];
 static uint32_t store[CLOSING_STORE_WORDS], expected[CLOSING_STORE_WORDS];
@@ -22,18 +20,6 @@ static uint64_t state = 1;
 static uint32_t random_below(uint32_t limit) {
     state = state * 6364136223846793005u + 1442695040888963407u;
     return (uint32_t)(state >> 33) % limit;
-}
-
-static void put_number(uint32_t value) {
-    for (; value >= 128; value >>= 7)
-        site[site_bytes++] = (uint8_t)(value | 128);
-    site[site_bytes++] = (uint8_t)value;
-}
-
-static int compare_rows(const void *a, const void *b) {
-    const struct row *r = a, *q = b;
-    if (r->subject != q->subject) return r->subject < q->subject ? -1 : 1;
-    return (r->object > q->object) - (r->object < q->object);
 }
 
 /* So many rows at random, ascending, each once. */
@@ -48,18 +34,16 @@ static size_t make_rows(struct row *row, size_t most, uint32_t terms) {
 }
 
 static void make_site(uint32_t predicates, uint32_t terms) {
-    site_bytes = 0;
-    put_number(predicates);
+    site.size = 0;
+    put_number(&site, predicates);
     for (uint32_t p = 0; p < predicates; p++) {
         count[p] = make_rows(rows[p], random_below(MOST_ROWS / predicates + 1), terms);
-        put_number(p + 1);
-        put_number((uint32_t)count[p]);
+        put_number(&site, p + 1);
+        put_number(&site, (uint32_t)count[p]);
     }
     for (uint32_t p = 0; p < predicates; p++)
-        for (size_t i = 0; i < count[p]; i++) {
-            put_number(rows[p][i].subject);
-            put_number(rows[p][i].object);
-        }
+        for (size_t i = 0; i < count[p]; i++)
+            put_row(&site, rows[p][i]);
 }
 
 /* A plan of two triple patterns, ?0 p ?1 and ?1 q ?2; the number returned, or -1 where the engine and the reference disagree. */
@@ -79,8 +63,8 @@ int main(void) {
     for (uint32_t n = 0; n < SITES; n++) {
         const uint32_t predicates = 1 + random_below(MOST_PREDICATES), t = n % 3 == 0 ? random_below(1001) : 1000;
         make_site(predicates, terms[n % 6]);
-        if (closing_build(t, site, site_bytes, store, CLOSING_STORE_WORDS, answer) != 0) return 1;
-        if (reference_build(t, site, site_bytes, expected, CLOSING_STORE_WORDS, wanted) != 0) return 1;
+        if (closing_build(t, site.byte, site.size, store, CLOSING_STORE_WORDS, answer) != 0) return 1;
+        if (reference_build(t, site.byte, site.size, expected, CLOSING_STORE_WORDS, wanted) != 0) return 1;
         const size_t used = (size_t)answer[1];
         if (answer[1] != wanted[1] || memcmp(store, expected, used * sizeof *store) != 0) return printf("site %u: another store\n", (unsigned)n), 1;
         for (int damage = 0; damage <= DAMAGES; damage++) {
