@@ -1,4 +1,4 @@
-/* Files as the tests and the benchmark write them. The reference does not use this: it reads files by document 01 alone. */
+/* Files as the tests and the benchmark write them. The reference has no part in this: it reads files by document 01 alone. */
 #ifndef FILES_H
 #define FILES_H
 

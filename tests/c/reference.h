@@ -1,5 +1,6 @@
-/* What document 01 says of the three calls, in plain C, by brute force: no reduced table is used to find a solution, and nothing is
- * shared with the engine. The calls take and give what those of closing.h do. */
+/* What document 01 says of the three calls, in plain C, by brute force: no reduced table is used to find a solution. The calls take and
+ * give what those of closing.h do. Nothing is shared with the engine or its header, nor with bench/plain.c, tools/reference.py or
+ * files.h: what is said there again is worked out again, so that no common mistake passes for agreement. */
 #ifndef REFERENCE_H
 #define REFERENCE_H
 
