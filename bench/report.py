@@ -9,7 +9,7 @@ import sys
 HERE = os.path.dirname(os.path.abspath(__file__))
 sys.path.insert(0, os.path.join(HERE, '..', 'tools'))
 
-from reference import KINDS, layout, plan, read_pattern, read_site
+from reference import KINDS, chosen_table, extended, layout, plan, read_pattern, read_site
 
 ENGINE, PLAIN, BEFORE, BEST, QUERY, CHECKED = range(6)
 
@@ -65,23 +65,6 @@ def comparisons(site):
 def searches(site):
     """Of one pass with a binary search for each row's partner: the steps of the searches."""
     return sum(math.ceil(math.log2(len(q) + 1)) for _, p in site for _, q in site for _ in KINDS for _ in p)
-
-
-def chosen_table(tables, pattern, place, choice):
-    full = tables[pattern[place][1][1]]
-    if choice == 0:
-        return full
-    (own, other), j = KINDS[(choice - 1) % 3], (choice - 1) // 3
-    values = {row[other] for row in tables[pattern[j][1][1]]}
-    return [row for row in full if row[own] in values]
-
-
-def extended(triple, row, terms):
-    more = dict(terms)
-    for (kind, value), term in zip((triple[0], triple[2]), row):
-        if term != (value if kind == 'term' else more.setdefault(value, term)):
-            return None
-    return more
 
 
 def known_subject(triple, terms):

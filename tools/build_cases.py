@@ -1,4 +1,5 @@
 """The further cases of `build`: T, the site's file, the words lent."""
+from making import BAD_FORM, faults_apart, joined
 from reference import layout, number, read_site, site_file
 from sites import G1, SHOP
 
@@ -7,19 +8,17 @@ NUMBERS = [2, 5, 2, 6, 2, 4, 2, 4, 3, 1, 1, 2, 0]
 T_PLACE, END_PLACE, STORE_PLACE = -1, len(NUMBERS), len(NUMBERS) + 1
 FAULTS = (
     [(T_PLACE, b''), (END_PLACE, b'\x00'), (STORE_PLACE, b'')]
-    + [(place, b'\x80\x00') for place in range(len(NUMBERS))]
+    + [(place, BAD_FORM) for place in range(len(NUMBERS))]
     + [(0, number(17)), (1, number(65536)), (3, number(5)), (2, number(1025)), (4, number(1025))]
     + [(place, number(65536)) for place in range(5, len(NUMBERS))]
     + [(8, number(2)), (11, number(1))]
 )
 
 
-def faulty(faults):
-    """The case of the good file with these faults."""
-    there = dict(faults)
-    data = b''.join(there.get(place, number(value)) for place, value in enumerate(NUMBERS)) + there.get(END_PLACE, b'')
-    needed = len(layout(1000, read_site(b''.join(map(number, NUMBERS)))))
-    return 1001 if T_PLACE in there else 1000, data, needed - 1 if STORE_PLACE in there else needed
+def faulty(there):
+    """The case of the good file with the faults that are there."""
+    needed = len(layout(1000, read_site(joined(NUMBERS, {}, END_PLACE))))
+    return 1001 if T_PLACE in there else 1000, joined(NUMBERS, there, END_PLACE), needed - 1 if STORE_PLACE in there else needed
 
 
 def cases():
@@ -84,13 +83,7 @@ def cases():
         yield 1000, site_file([(5, [(4, 2), row])]), 48
     # each table begins anew
     yield 1000, site_file([(5, [(9, 9)]), (6, [(1, 1)])]), 64
-    # each single fault, and each two at different places: the one that is met first
-    yield faulty([])
-    for first in FAULTS:
-        yield faulty([first])
-        for second in FAULTS:
-            if first[0] < second[0]:
-                yield faulty([first, second])
+    yield from map(faulty, faults_apart(FAULTS))
     # two faults at once, by hand
     yield 1001, b'', 8
     yield 1001, number(17), 8

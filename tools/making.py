@@ -29,7 +29,18 @@ class Over:
         return 'run', *self.over(count, place, value), pattern, steps, lent
 
 
+def faults_apart(faults):
+    """No fault, each single one, and each two at different places: the one that is met first is told."""
+    yield {}
+    for first in faults:
+        yield dict([first])
+        for second in faults:
+            if first[0] < second[0]:
+                yield dict([first, second])
+
+
 def joined(numbers, there, end):
+    """The bytes of numbers, others where there is a fault, and what is said to stand behind their end."""
     return b''.join(there.get(place, number(value)) for place, value in enumerate(numbers)) + there.get(end, b'')
 
 

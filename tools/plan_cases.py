@@ -1,5 +1,5 @@
 """The further cases of `plan`: a store's words, then what is asked over them."""
-from making import BAD_FORM, Over, joined, random_numbers, random_pattern
+from making import BAD_FORM, Over, faults_apart, joined, random_numbers, random_pattern
 from reference import layout, number, pattern_file, read_site
 from sites import CHECK, G1, G1_WORDS, NONE_BY_COUNTS, Q1, SHOP, SHOP_WORDS, SMALL_WORDS, STAR_OF_TERMS
 
@@ -78,18 +78,8 @@ def patterns():
     """Questions 11 to 17."""
     small = Over(SMALL_WORDS)
     yield small.held()
-
-    def faulty(faults):
-        there = dict(faults)
-        return small.plan(joined(NUMBERS, there, END_PLACE), count=len(SMALL_WORDS) - (STORE_PLACE in there))
-
-    # each single fault, and each two at different places: the one that is met first
-    yield faulty([])
-    for first in FAULTS:
-        yield faulty([first])
-        for second in FAULTS:
-            if first[0] < second[0]:
-                yield faulty([first, second])
+    for there in faults_apart(FAULTS):
+        yield small.plan(joined(NUMBERS, there, END_PLACE), count=len(SMALL_WORDS) - (STORE_PLACE in there))
     # N at its limits, with good form and without
     triple = bytes([1, 2, 1])
     for count in (0, 1, 2, 7, 8, 9, 127, 128, 16384, 2097151):

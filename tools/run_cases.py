@@ -2,7 +2,7 @@
 the same rows."""
 from itertools import permutations, product
 
-from making import BAD_FORM, Over, joined, random_numbers, random_pattern
+from making import BAD_FORM, Over, faults_apart, joined, random_numbers, random_pattern
 from reference import choices, layout, number, pattern_file, plan_file, read_pattern, read_site, site_file
 from sites import CHECK, CHECK_PLAN, G1, G1_WORDS, NONE_BY_COUNTS, Q1, SHOP, SHOP_WORDS, SMALL_WORDS, STAR_OF_TERMS
 
@@ -31,7 +31,7 @@ def given_plans():
     for place in range(4):
         for choice in range(14):
             yield graph.run(Q1, plan_file([(place, choice)] + [(other, 0) for other in range(4) if other != place]))
-    # each single fault of a plan, and each two at different places
+    # faults of a plan
     small = Over(SMALL_WORDS)
     yield small.held()
     numbers = [1, 0, 0, 0]
@@ -41,12 +41,8 @@ def given_plans():
         + [(place, BAD_FORM) for place in range(4)]
         + [(place, number(choice)) for place in (1, 3) for choice in (1, 2, 4, 6, 7, 25, 200)]
     )
-    yield small.run(pattern, joined(numbers, {}, 4))
-    for first in faults:
-        yield small.run(pattern, joined(numbers, dict([first]), 4))
-        for second in faults:
-            if first[0] < second[0]:
-                yield small.run(pattern, joined(numbers, dict([first, second]), 4))
+    for there in faults_apart(faults):
+        yield small.run(pattern, joined(numbers, there, len(numbers)))
     # 19 before a choice cut off, 20 before extra bytes, the pattern's questions before the plan's
     yield small.run(pattern, bytes([2]))
     yield small.run(pattern, bytes([1, 0, 1]))
