@@ -1,5 +1,5 @@
 /* plain.h - what the engine's speed is compared with: its calls in plain C, two ways (plain.c says which), and those of its archive as it
- * was before question 10 and the join were made by search. They are the calls of closing.h under other names; of plain C nothing is proved.
+ * was at an older commit (bench/archives.sh). They are the calls of closing.h under other names; of plain C nothing is proved.
  *
  * Inputs, answers, refusals and lent memory are those of closing.h, word for word. */
 #ifndef PLAIN_H

@@ -1,5 +1,8 @@
 #!/usr/bin/env python3
-"""Writes bench/RESULTS.md and bench/plot.svg from what bench/run measured, in the folder that is its one argument."""
+"""Writes bench/RESULTS.md and bench/plot.svg from what bench/run measured. Usage: report.py FOLDER COMMIT
+
+FOLDER holds what was measured; COMMIT is that of the archive of before.
+"""
 from bisect import bisect_left, bisect_right
 import math
 import os
@@ -193,7 +196,7 @@ def best_bounds(what, measured):
     return bounds(what, [line.ratio(BEST) for line in measured if line.call != 'build'])
 
 
-def results(folder):
+def results(folder, commit):
     everything = [Line(text) for text in lines(folder, 'times.txt')]
     measured, further = [line for line in everything if not has_gaps(line)], [line for line in everything if has_gaps(line)]
     sites = inputs(folder)
@@ -202,8 +205,7 @@ def results(folder):
     worst = max(line.spread(engine) for line in everything for engine in range(6))
     text = ['# What a closing check costs', '', 'Written by `bench/run`; medians of 21 interleaved repeats in one process, on %s. Compare ratios of' % platform.machine(),
             'one run, not times of two. The widest distance between quartiles was %.0f %% of a median.' % (100 * worst), '',
-            'Plain C is the same algorithm; best C the fastest that we could write for the same calls; before is the archive of the last commit before',
-            'question 10 and the join were made by search.', '',
+            'Plain C is the same algorithm; best C the fastest that we could write for the same calls; before is the archive of commit %s.' % commit, '',
             bounds('Engine over plain C', [line.ratio(PLAIN) for line in measured]), '',
             best_bounds('Engine over best C, plan and run', measured), '',
             bounds('Run over SQLite with quick_check', [line.ratio(CHECKED) for line in measured if line.call == 'run']), '',
@@ -258,11 +260,12 @@ def plot(measured):
 
 
 def main():
-    measured, text = results(sys.argv[1])
+    measured, text = results(*sys.argv[1:])
     for name, content in (('RESULTS.md', text), ('plot.svg', plot(measured))):
         with open(os.path.join(HERE, name), 'w') as file:
             file.write(content)
     print('bench/RESULTS.md and bench/plot.svg are written')
 
 
-main()
+if __name__ == '__main__':
+    main()

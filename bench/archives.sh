@@ -1,0 +1,31 @@
+# For bench/run and bench/beside, `. bench/archives.sh COMMIT`: proves and builds the archive, and that of COMMIT, whose calls are named
+# before_build, before_plan and before_run; it is made once for each commit. Compiles what measure is linked of beside the two.
+
+warnings='-std=c99 -Wall -Wextra -Wpedantic -Wconversion -Wshadow -Wstrict-prototypes -Wmissing-prototypes -Werror'
+out=target/bench
+archive=target/staticlib/libclosing.a
+commit=$(git rev-parse --verify --quiet --short=7 "$1^{commit}") || { echo "no such commit: $1" >&2; exit 2; }
+before=$out/before-$commit.a
+mkdir -p "$out"
+
+echo 'proving and building the archive ...'
+rt staticlib closing >"$out/archive.log" 2>&1 || { tail -n 20 "$out/archive.log"; exit 1; }
+
+if [ ! -f "$before" ]; then
+  echo "proving and building the archive of $commit ..."
+  rm -rf "$out/before" && git clone -q --no-checkout . "$out/before" && git -C "$out/before" checkout -q "$commit"
+  (cd "$out/before" && rt staticlib closing) >"$out/before.log" 2>&1 || { tail -n 20 "$out/before.log"; exit 1; }
+  objcopy --redefine-sym closing_build=before_build --redefine-sym closing_plan=before_plan --redefine-sym closing_run=before_run \
+    "$out/before/target/staticlib/libclosing.a" "$before"
+fi
+
+# loops aligned, since where a short loop happens to lie moves its time by half
+objects=
+for way in search best; do
+  gcc $warnings -O3 -falign-loops=32 -DWAY=${way^^} -DPREFIX=$way -c -o "$out/$way.o" bench/plain.c -I include -I bench
+  objects="$objects $out/$way.o"
+done
+for part in measure shops peer; do
+  gcc $warnings -O2 -I include -I bench -I tests/c -c -o "$out/$part.o" bench/$part.c
+  objects="$objects $out/$part.o"
+done
