@@ -23,19 +23,22 @@ def lines(folder, name):
 
 
 class Line:
-    """One line of times.txt: a call on a site, with each engine's median and quartiles."""
+    """One line of times.txt: a call on a site, with each engine's median, quartiles and least."""
 
     def __init__(self, text):
         self.call, self.site, rows, self.check, count, found, *times = text.split('\t')
         self.rows, self.count, self.found = int(rows), int(count), int(found)
-        self.times = [tuple(float(x) for x in times[3 * e:3 * e + 3]) for e in range(6)]
+        self.times = [tuple(float(x) for x in times[4 * e:4 * e + 4]) for e in range(6)]
 
     def median(self, engine):
         return self.times[engine][0]
 
     def spread(self, engine):
-        middle, low, high = self.times[engine]
+        middle, low, high, _ = self.times[engine]
         return (high - low) / middle if middle else 0
+
+    def least(self, engine):
+        return self.times[engine][3]
 
     def ratio(self, engine):
         """The engine's time over another's."""
@@ -136,8 +139,11 @@ def build_table(measured, sites):
     for line in (line for line in measured if line.call == 'build'):
         site = next(site for name, site, _ in sites if name == line.site)
         rows.append((line.site, '{:,}'.format(line.found), '{:,}'.format(comparisons(site)), '{:,}'.format(searches(site)), timed(line, ENGINE),
-                     timed(line, PLAIN), cell(line.ratio(PLAIN)), timed(line, QUERY), cell(line.ratio(QUERY))))
-    return table(('site', 'words', 'comparisons of one pass', 'by search', 'engine', 'plain C', 'engine / C', 'SQLite load', 'engine / load'), rows)
+                     timed(line, PLAIN), cell(line.ratio(PLAIN)), timed(line, BEFORE), cell(line.ratio(BEFORE)), timed(line, QUERY),
+                     cell(line.ratio(QUERY))))
+    head = ('site', 'words', 'comparisons of one pass', 'by search', 'engine', 'plain C', 'engine / C', 'before', 'engine / before', 'SQLite load',
+            'engine / load')
+    return table(head, rows)
 
 
 def faster(line):
