@@ -26,8 +26,8 @@ def main(path, limit):
     print('\n'.join(table(('call', 'site', 'check', 'engine', 'before', 'engine / before'), rows)), end='\n\n')
     for call in dict.fromkeys(call for call, _, _ in ratios):
         print(bounds(call, [ratio for key, ratio in ratios.items() if key[0] == call]))
-    above = sum(ratio > limit for ratio in ratios.values())
-    print('The greatest of %d ratios is %.3f (%s); %d above %.2f.' % (len(ratios), ratios[ascending[-1]], ', '.join(filter(None, ascending[-1])), above, limit))
+    greatest, above = ascending[-1], sum(ratio > limit for ratio in ratios.values())
+    print('The greatest of %d is %.3f, %s; %d are above %s.' % (len(ratios), ratios[greatest], ', '.join(filter(None, greatest)), above, limit))
     return 1 if above else 0
 
 
