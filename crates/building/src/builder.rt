@@ -4,22 +4,18 @@ ghost use lib.ListN.{length};
 ghost use lib.Seq.{sets};
 ghost use Rattle.model.specs.Tables.{mostThreshold};
 ghost use Rattle.model.specs.Store.{semiJoins, semiJoinEntries, storedStart, storedWords, layout, vpEntryAt};
-ghost use Rattle.model.specs.Calls.{outcome, filled, build as buildOutcome};
+ghost use Rattle.model.specs.Calls.{outcome, filled};
 ghost use Rattle.tables.specs.SiteWords.{siteIn, ImageOf, CountsIn};
-use crate::site_reader::SiteRead;
-use crate::site_reader::read_site;
 use model::answer::Answer;
 use reducing::semi_join_count::count_semi_join;
 use reducing::semi_join_write::write_semi_join;
 use tables::copying::copy_words;
 use tables::kinds::KINDS;
 use tables::kinds::is_stored;
-use tables::layout::IMAGE_WORDS;
 use tables::layout::put_semi_join_entry;
 use tables::layout::rows_start;
 use tables::layout::semi_join_entry;
 use tables::layout::table_entry;
-use tables::limits::MOST_THRESHOLD;
 use tables::operands::operands_at;
 
 // Where the stored tables' rows begin.
@@ -72,7 +68,7 @@ fn write_stored(t: usize, count: usize, image: &[u32], store: &mut [u32], first:
 }
 
 // Question 9, and then the words: nothing is written before the count of words used is known.
-fn fill_store(t: u32, count: usize, image: &mut [u32], store: &mut [u32]) -> Answer
+pub fn fill_store(t: u32, count: usize, image: &mut [u32], store: &mut [u32]) -> Answer
     requires { ⌜ ImageOf count (now image) × (t ≤ mostThreshold) ⌝ }
     ensures { λ r. ⌜ outcome r (now (store .exit)) ≡ filled t (siteIn count (now (image .entry))) (now (store .entry)) ⌝ }
 {
@@ -88,18 +84,4 @@ fn fill_store(t: u32, count: usize, image: &mut [u32], store: &mut [u32]) -> Ans
     copy_words(image, 0, first, store);
     write_stored(threshold, count, image, store, first);
     Answer::Built(used as u32)
-}
-
-// Builds the store of a site's file at the threshold t.
-pub fn build(t: u32, site: &[u8], store: &mut [u32]) -> Answer
-    ensures { λ r. ⌜ outcome r (now (store .exit)) ≡ buildOutcome t (now (site .entry)) (now (store .entry)) ⌝ }
-{
-    if MOST_THRESHOLD < t {
-        return Answer::Refused(1);
-    }
-    let mut image = [0u32; IMAGE_WORDS];
-    match read_site(site, &mut image) {
-        SiteRead::Refused(number) => Answer::Refused(number),
-        SiteRead::Predicates(count) => fill_store(t, count, &mut image, store),
-    }
 }
