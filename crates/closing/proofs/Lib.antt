@@ -1,2 +1,4 @@
 -- Laws that the proofs of this crate cite.
+pub mod Checks
+pub mod Runs
 pub mod Reported

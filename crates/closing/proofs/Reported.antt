@@ -1,15 +1,16 @@
--- What a wrapper reports of a call's outcome: its number, the memory, and the values.
+-- What a wrapper reports of a call: its number, the memory, and the values.
 use Prim.Native.Nat.{ℕ}
-use mathlib.Core.Path.{_≡_, ap, _∙_}
-use mathlib.Core.List.{List, []}
-use Rattle.model.specs.Calls.{Outcome, outcome, numberOf, valuesOf, planNumbers}
+use mathlib.Core.Path.{_≡_, refl, ap}
+use mathlib.Core.List.{List}
+use Rattle.model.specs.Calls.{Outcome, outcome, numberOf, valuesOf, planBytesOf, seen, seenOf, seenOfPlan}
 use Rattle.model.specs.declared.answer.Answer.{Answer}
-use Rattle.model.specs.declared.plan.Plan.{Plan as PlanNumbers}
+use Rattle.model.specs.declared.answer.Planned.{Planned}
 
-pub reported : (lent : List ℕ) {answer : Answer} {memory values : List ℕ} {plan : PlanNumbers} {n : ℕ} {o : Outcome}
-    → outcome answer memory ≡ o → plan ≡ planNumbers [] → (n ≡ numberOf answer) × (values ≡ valuesOf answer plan lent)
-    → (n ≡ numberOf (o .answer)) × ((memory ≡ o .memory) × (values ≡ valuesOf (o .answer) (planNumbers []) lent))
-reported lent made none told = (
-  told .0 ∙ ap (λ (o : Outcome). numberOf (o .answer)) made,
-  (ap (λ (o : Outcome). o .memory) made, rw none at (told .1) ∙ ap (λ (o : Outcome). valuesOf (o .answer) (planNumbers []) lent) made),
-)
+pub outcome-reported : (lent : List ℕ) {answer : Answer} {memory values : List ℕ} {n : ℕ} {o : Outcome}
+    → outcome answer memory ≡ o → (n ≡ numberOf answer) × (values ≡ valuesOf answer 0 lent) → seen n memory values ≡ seenOf o lent
+outcome-reported lent made told = rw (told .0, told .1) (ap (λ (o : Outcome). seenOf o lent) made)
+
+pub plan-reported : (made : Planned) (lent lentSteps : List ℕ) {steps values : List ℕ} {n : ℕ}
+    → (n ≡ numberOf (made .answer)) × (values ≡ valuesOf (made .answer) (made .plan .count) lent) → steps ≡ planBytesOf made lentSteps
+    → seen n steps values ≡ seenOfPlan made lentSteps lent
+plan-reported made lent lentSteps told given = rw (told .0, told .1, given) refl

@@ -1,12 +1,24 @@
 ghost use mathlib.Core.Path.{_≡_};
-ghost use Rattle.model.specs.Calls.{outcome, build as buildOutcome, plan as planAnswer, run as runOutcome};
+ghost use mathlib.Core.List.{[]};
+ghost use Rattle.model.specs.Calls.{outcome, checked as checkReply, withPlan, build as buildOutcome, plan as planAnswer, run as runOutcome};
+ghost use Rattle.model.specs.declared.answer.Answer.the-variants.{Refused};
+ghost use Rattle.closing.specs.Checks.{CheckedAs};
 use building::builder::fill_store;
 use building::site_reader::SiteRead;
 use building::site_reader::read_site;
 use model::answer::Answer;
 use model::answer::Planned;
+use model::plan::Plan;
+use patterns::pattern_reader::PatternRead;
+use patterns::pattern_reader::pattern_refused;
+use patterns::pattern_reader::read_pattern;
+use planning::planner::plan_pattern;
+use plans::plan_reader::read_plan;
+use running::counts::none_by_counts;
+use running::runner::run_plan;
 use tables::layout::IMAGE_WORDS;
 use tables::limits::MOST_THRESHOLD;
+use validation::store::is_store;
 
 // Builds the store of a site's file at the threshold t: Built with the words used, or a refusal 1 to 9 that leaves the store as it was.
 pub fn build(t: u32, site: &[u8], store: &mut [u32]) -> Answer
@@ -22,16 +34,63 @@ pub fn build(t: u32, site: &[u8], store: &mut [u32]) -> Answer
     }
 }
 
+// Questions 10 to 17: the store, then the pattern. Every call that is given both begins with them.
+fn checked(store: &[u32], pattern: &[u8]) -> PatternRead
+    ensures { λ r. ⌜ CheckedAs (now (store .entry)) (checkReply (now (store .entry)) (now (pattern .entry))) r ⌝ }
+{
+    if !is_store(store) {
+        return pattern_refused(10);
+    }
+    read_pattern(store, pattern)
+}
+
+// Zeros stand beside a refusal.
+fn refused_plan(refusal: u32) -> Planned
+    ensures { λ r. ⌜ r ≡ withPlan (Refused refusal) [] ⌝ }
+{
+    let plan = Plan {
+        steps: [0u8; 16],
+        count: 0,
+    };
+    Planned {
+        answer: Answer::Refused(refusal),
+        plan,
+    }
+}
+
 // Plans a check over a store: Plan with its steps and their count, or a refusal 10 to 17 with zeros beside it.
 pub fn plan(store: &[u32], pattern: &[u8]) -> Planned
     ensures { λ r. ⌜ r ≡ planAnswer (now (store .entry)) (now (pattern .entry)) ⌝ }
 {
-    planning::planner::plan(store, pattern)
+    let check = checked(store, pattern);
+    let refusal = check.refusal;
+    if refusal != 0 {
+        return refused_plan(refusal);
+    }
+    let plan = plan_pattern(store, check.pattern);
+    Planned {
+        answer: Answer::Plan,
+        plan,
+    }
 }
 
 // Runs a given plan of a check over a store: Rows with their count and width, None, or a refusal 10 to 21; only Rows alters the rows' memory.
 pub fn run(store: &[u32], pattern: &[u8], plan: &[u8], rows: &mut [u32]) -> Answer
     ensures { λ r. ⌜ outcome r (now (rows .exit)) ≡ runOutcome (now (store .entry)) (now (pattern .entry)) (now (plan .entry)) (now (rows .entry)) ⌝ }
 {
-    running::runner::run(store, pattern, plan, rows)
+    let check = checked(store, pattern);
+    let check_refusal = check.refusal;
+    if check_refusal != 0 {
+        return Answer::Refused(check_refusal);
+    }
+    let accepted = check.pattern;
+    let given = read_plan(store, accepted, plan);
+    let plan_refusal = given.refusal;
+    if plan_refusal != 0 {
+        return Answer::Refused(plan_refusal);
+    }
+    if none_by_counts(store, accepted) {
+        return Answer::None;
+    }
+    run_plan(store, accepted, given.plan, rows)
 }

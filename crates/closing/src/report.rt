@@ -1,12 +1,12 @@
 ghost use mathlib.Core.Path.{_≡_};
 ghost use Rattle.model.specs.Calls.{numberOf, valuesOf};
 use model::answer::Answer;
-use model::plan::Plan;
 
 // What a caller in C sees of an answer: the number returned, 0 or the refusal's, and the lent words, which a refusal leaves alone.
-pub fn report(answer: Answer, plan: Plan, values: &mut [u64; 4]) -> u32
+// `steps` counts the steps of a plan.
+pub fn report(answer: Answer, steps: usize, values: &mut [u64; 4]) -> u32
     ensures { λ r. ⌜ r ≡ numberOf answer ⌝ }
-    ensures { λ _. ⌜ now (values .exit) ≡ valuesOf answer plan (now (values .entry)) ⌝ }
+    ensures { λ _. ⌜ now (values .exit) ≡ valuesOf answer steps (now (values .entry)) ⌝ }
 {
     match answer {
         Answer::Rows(count, width) => {
@@ -24,7 +24,7 @@ pub fn report(answer: Answer, plan: Plan, values: &mut [u64; 4]) -> u32
             0
         }
         Answer::Plan => {
-            let words = [4, plan.count as u64, 0, 0];
+            let words = [4, steps as u64, 0, 0];
             *values = words;
             0
         }

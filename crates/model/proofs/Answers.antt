@@ -17,7 +17,6 @@ use Rattle.model.specs.SiteFile.{readSite}
 use Rattle.model.specs.Tables.{at, mostThreshold}
 use Rattle.model.specs.Store.{layout, Holds, Store, storeAt}
 use Rattle.model.specs.Pattern.{width}
-use Rattle.model.specs.PatternFile.{readPattern}
 use Rattle.model.specs.PlanFile.{readPlan}
 use Rattle.model.specs.Solutions.{IsSolution, solutions}
 use Rattle.model.specs.Calls.{Outcome, outcome, over, unaltered, build, plan, noneByCounts, rowsOutcome, run}
@@ -29,8 +28,8 @@ use Rattle.model.proofs.Solutions.{solutions-complete}
 use Rattle.model.proofs.Stores.{store-complete, built-holds}
 use Rattle.model.proofs.SiteFile.{site-file}
 use Rattle.model.proofs.PatternFile.{pattern-accepted}
-use Rattle.model.proofs.Refusals.{site-refuses, pattern-refuses, plan-refuses}
-use Rattle.model.proofs.Calls.{by-reply, by-question, by-store, wider, none-by-counts}
+use Rattle.model.proofs.Refusals.{site-refuses, plan-refuses}
+use Rattle.model.proofs.Calls.{by-reply, by-question, by-check, wider, none-by-counts}
 
 pub build-answers : (t : ℕ) (bytes memory : List ℕ) → BuildAnswer t bytes memory (build t bytes memory)
 unfolding build
@@ -44,10 +43,7 @@ build-answers t bytes memory =
 pub plan-answers : (words bytes : List ℕ) → PlanCallAnswer words bytes (plan words bytes)
 unfolding plan
 plan-answers words bytes =
-    by-store (PlanCallAnswer words bytes) _ words _ (inl (10, omega arith, refl))
-    λ store h. by-reply (PlanCallAnswer words bytes) _ (readPattern (store .site) bytes) _
-    (λ n e. inl (n, wider 10 17 (omega arith) (omega arith) (pattern-refuses (store .site) bytes .number-between n e), refl))
-    λ pattern e. inr (record { store = store; holds = h; pattern = pattern; read = e }, refl)
+    by-check (PlanCallAnswer words bytes) _ words bytes _ (λ n between. inl (n, between, refl)) λ c. inr (c, refl)
 
 -- the last questions, of an accepted check
 module _ (words bytes memory : List ℕ) (c : Accepted words bytes) where
@@ -72,12 +68,11 @@ module _ (words bytes memory : List ℕ) (c : Accepted words bytes) where
 pub run-answers : (words bytes steps memory : List ℕ) → RunAnswer words bytes memory (run words bytes steps memory)
 unfolding run
 run-answers words bytes steps memory =
-    by-store (RunAnswer words bytes memory) (unaltered memory) words _ (inl (10, omega arith, refl))
-    λ store h. by-reply (RunAnswer words bytes memory) (unaltered memory) (readPattern (store .site) bytes) _
-    (λ n e. inl (n, wider 10 21 (omega arith) (omega arith) (pattern-refuses (store .site) bytes .number-between n e), refl))
-    λ pattern e. by-reply (RunAnswer words bytes memory) (unaltered memory) (readPlan store pattern steps) _
-    (λ n f. inl (n, wider 10 21 (omega arith) (omega arith) (plan-refuses store pattern steps .number-between n f), refl))
-    λ _ _. by-counts words bytes memory (record { store = store; holds = h; pattern = pattern; read = e }) (noneByCounts (store .site) pattern) refl
+    by-check (RunAnswer words bytes memory) (unaltered memory) words bytes _
+    (λ n between. inl (n, wider 10 21 (omega arith) (omega arith) between, refl))
+    λ c. by-reply (RunAnswer words bytes memory) (unaltered memory) (readPlan (c .store) (c .pattern) steps) _
+    (λ n e. inl (n, wider 10 21 (omega arith) (omega arith) (plan-refuses (c .store) (c .pattern) steps .number-between n e), refl))
+    λ _ _. by-counts words bytes memory c (noneByCounts (c .store .site) (c .pattern)) refl
 
 refused-not-none : {X : Type 0} {n : ℕ} → Refused n ≡ None → X
 refused-not-none h = let z : _≡_ {A = ℕ} 0 1 = cc in absurd (omega arith)

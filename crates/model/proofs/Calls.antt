@@ -13,42 +13,44 @@ use Rattle.model.specs.Lists.{_∈_, any}
 use Rattle.model.specs.Reader.{Reply, refused, gives}
 use Rattle.model.specs.Site.{Row, Site}
 use Rattle.model.specs.Tables.{Kind, kinds}
-use Rattle.model.specs.Store.{Holds, Store, storeOf}
+use Rattle.model.specs.Store.{Store, decoded, isStoreOf, storeOf}
 use Rattle.model.specs.Pattern.{Pattern, places, isAccepted, fullTable}
+use Rattle.model.specs.PatternFile.{readPattern}
 use Rattle.model.specs.Plan.{qualifies, reducedTable}
 use Rattle.model.specs.Solutions.{solutions}
-use Rattle.model.specs.Answers.{Between}
-use Rattle.model.specs.Calls.{either, question, storeReply, noneByCounts}
+use Rattle.model.specs.Answers.{Between, Accepted}
+use Rattle.model.specs.Calls.{either, question, storeReply, Check, checkOf, checked, emptyAgainst, noneByCounts}
 use Rattle.model.proofs.Booleans.{and-cases, or-cases}
 use Rattle.model.proofs.Membership.{no-element, from-any}
 use Rattle.model.proofs.Below.{from-below}
 use Rattle.model.proofs.Places.{empty-reduced, empty-full}
 use Rattle.model.proofs.Stores.{store-sound}
+use Rattle.model.proofs.PatternFile.{pattern-accepted}
+use Rattle.model.proofs.Refusals.{pattern-refuses}
 
 -- ---- none by counts
 
-no-rows : (rows : List Row) → eqb (length rows) 0 ≡ true → rows ≡ []
-no-rows rows e = no-element rows (eqb-true (length rows) 0 e)
+-- a table that is counted to have no rows
+counted-empty : (rows : List Row) → eqb (length rows) 0 ≡ true → rows ≡ []
+counted-empty rows e = no-element rows (eqb-true (length rows) 0 e)
 
 pub none-by-counts : (site : Site) (pattern : Pattern) → isAccepted site pattern ≡ true → noneByCounts site pattern ≡ true → solutions site pattern ≡ []
 unfolding noneByCounts
 none-by-counts site pattern accepted h =
-    let i = from-any (λ i. eqb (length (fullTable site pattern i)) 0 || emptyAgainst i) (places pattern) h in
-    go (i .0) (i .1) (or-cases (eqb (length (fullTable site pattern (i .0))) 0) (emptyAgainst (i .0)) (i .2))
+    let i = from-any (λ i. eqb (length (fullTable site pattern i)) 0 || emptyAgainst site pattern i) (places pattern) h in
+    go (i .0) (i .1) (or-cases (eqb (length (fullTable site pattern (i .0))) 0) (emptyAgainst site pattern (i .0)) (i .2))
   where
     empty : ℕ → ℕ → Kind → Bool
     empty i j k = qualifies pattern i j k && eqb (length (reducedTable site pattern i j k)) 0
 
-    emptyAgainst : ℕ → Bool
-    emptyAgainst i = any (λ j. any (empty i j) kinds) (places pattern)
-
-    go : (i : ℕ) → i ∈ places pattern → (eqb (length (fullTable site pattern i)) 0 ≡ true) ⊎ (emptyAgainst i ≡ true) → solutions site pattern ≡ []
-    go i m (inl e) = empty-full site pattern accepted i (from-below (length pattern) m) (no-rows (fullTable site pattern i) e)
+    go : (i : ℕ) → i ∈ places pattern → (eqb (length (fullTable site pattern i)) 0 ≡ true) ⊎ (emptyAgainst site pattern i ≡ true)
+        → solutions site pattern ≡ []
+    go i m (inl e) = empty-full site pattern accepted i (from-below (length pattern) m) (counted-empty (fullTable site pattern i) e)
     go i m (inr e) =
         let j = from-any (λ j. any (empty i j) kinds) (places pattern) e in
         let k = from-any (empty i (j .0)) kinds (j .2) in
         let c = and-cases (qualifies pattern i (j .0) (k .0)) (eqb (length (reducedTable site pattern i (j .0) (k .0))) 0) (k .2) in
-        empty-reduced site pattern accepted i (j .0) (k .0) (c .0) (no-rows (reducedTable site pattern i (j .0) (k .0)) (c .1))
+        empty-reduced site pattern accepted i (j .0) (k .0) (c .0) (counted-empty (reducedTable site pattern i (j .0) (k .0)) (c .1))
 
 -- ---- from question to question
 
@@ -64,14 +66,46 @@ unfolding either
 by-question P refusal n true next f g = g refl
 by-question P refusal n false next f g = f
 
-pub by-store : {B : Type 0} (P : B → Type 0) (refusal : ℕ → B) (words : List ℕ) (next : Store → B)
-    → P (refusal 10) → ((store : Store) → Holds words (store .threshold) (store .site) → P (next store)) → P (either refusal (storeReply (storeOf words)) next)
-unfolding either
-by-store P refusal words next f g = go (storeOf words) refl
-  where
-    go : (x : Option Store) → storeOf words ≡ x → P (either refusal (storeReply x) next)
-    go none e = f
-    go (some store) e = g store (store-sound words store e)
-
 pub wider : {low high n : ℕ} (down up : ℕ) → down ≤ low → high ≤ up → Between low high n → Between down up n
 wider down up a b h = (omega arith, omega arith)
+
+-- what follows questions 10 to 17 is asked of an accepted check
+pub by-check : {B : Type 0} (P : B → Type 0) (refusal : ℕ → B) (words bytes : List ℕ) (next : Check → B)
+    → ((n : ℕ) → Between 10 17 n → P (refusal n))
+    → ((a : Accepted words bytes) → P (next (checkOf (a .store) (a .pattern))))
+    → P (either refusal (checked words bytes) next)
+unfolding either checked
+by-check {B} P refusal words bytes next f g = go (storeOf words) refl
+  where
+    Then : Reply Check → Type 0
+    Then reply = P (either refusal reply next)
+
+    read : (store : Store) → storeOf words ≡ some store → (x : Reply Pattern) → readPattern (store .site) bytes ≡ x
+        → Then (either refused x (λ pattern. gives (checkOf store pattern)))
+    read store s (refused n) e = f n (wider 10 17 (omega arith) (omega arith) (pattern-refuses (store .site) bytes .number-between n e))
+    read store s (gives pattern) e = g (record { store = store; holds = store-sound words store s; pattern = pattern; read = e })
+
+    go : (x : Option Store) → storeOf words ≡ x
+        → Then (either refused (storeReply x) (λ store. either refused (readPattern (store .site) bytes) (λ pattern. gives (checkOf store pattern))))
+    go none e = f 10 (omega arith)
+    go (some store) e = read store e (readPattern (store .site) bytes) refl
+
+-- the pattern is accepted in the store's site
+pub check-accepted : (words bytes : List ℕ) (c : Check) → checked words bytes ≡ gives c → isAccepted (c .store .site) (c .pattern) ≡ true
+unfolding either
+check-accepted words bytes c e = rw e at yes
+  where
+    yes : either (λ _. true) (checked words bytes) (λ (c : Check). isAccepted (c .store .site) (c .pattern)) ≡ true
+    yes =
+        by-check (λ b. b ≡ true) (λ _. true) words bytes (λ c. isAccepted (c .store .site) (c .pattern)) (λ n between. refl)
+        λ a. pattern-accepted (a .store .site) bytes (a .pattern) (a .read)
+
+module _ (words bytes : List ℕ) where
+  pub check-no-store : isStoreOf (decoded words) words ≡ false → checked words bytes ≡ refused 10
+  unfolding checked either storeOf
+  check-no-store e = rw e refl
+
+  pub check-store : isStoreOf (decoded words) words ≡ true
+      → checked words bytes ≡ either refused (readPattern (decoded words .site) bytes) (λ pattern. gives (checkOf (decoded words) pattern))
+  unfolding checked either storeOf
+  check-store e = rw e refl

@@ -17,14 +17,12 @@ use Rattle.model.specs.PlanFile.{step, readPlan}
 use Rattle.model.specs.Planner.{tableRows, chooseTable, isJoined, termCount, chosenRows, beats, competitors, pick, order, planned}
 use Rattle.model.specs.Solutions.{terms, rowsOver, isSolution, solutions}
 use Rattle.model.specs.Join.{extend, joinTable, joined, joinRows}
-use Rattle.model.specs.Calls.{Outcome, outcome, either, build, plan, noneByCounts, rowsOutcome, run, numberOf, valuesOf, planBytesOf}
+use Rattle.model.specs.Calls.{Outcome, outcome, either, build, checked, plan, noneByCounts, rowsOutcome, run, numberOf, valuesOf, planBytesOf, seenOf, seenOfPlan}
 use Rattle.model.specs.Chain.{isRefused, planAndRun, chain}
 use Rattle.model.specs.Text.{decimalWithin, decimal, spaced, rowLine, firstLine, rowLines, printed}
-use Rattle.model.specs.declared.answer.Answer.{Answer}
 use Rattle.model.specs.declared.answer.Answer.the-variants.{Rows, None, Built, Refused}
 use Rattle.model.specs.declared.answer.Answer.the-variants.{Plan as PlanAnswer}
 use Rattle.model.specs.declared.answer.Planned.{Planned}
-use Rattle.model.specs.declared.plan.Plan.{Plan as PlanNumbers}
 
 -- predicates: 1 covers, 2 in, 3 state
 abbrev pub shop : List ℕ
@@ -93,15 +91,12 @@ abbrev pub joinWords : List ℕ → Plan → List ℕ
 joinWords bytes plan = concatMap (λ row. row) (joinRows (siteIn (readSite shop)) (patternIn (readPattern (siteIn (readSite shop)) bytes)) plan)
 
 -- what a caller sees of an answer: the number returned, and four words lent for the values, each 7 before
-abbrev pub seen : Answer → PlanNumbers → Outcome
-seen answer plan = outcome answer (numberOf answer ∷ valuesOf answer plan (lent 4))
+abbrev pub told : Outcome → Outcome
+told o = let s = seenOf o (lent 4) in outcome (o .answer) (s .number ∷ s .values)
 
 -- what a caller sees of a plan's answer: the same, and sixteen bytes lent for the plan
-abbrev pub seenPlan : Planned → Outcome
-seenPlan p = outcome (p .answer) (seen (p .answer) (p .plan) .memory ++ planBytesOf p (lent 16))
-
-abbrev pub noPlan : PlanNumbers
-noPlan = record { steps = []; count = 0 }
+abbrev pub toldPlan : Planned → Outcome
+toldPlan p = let s = seenOfPlan p (lent 16) (lent 4) in outcome (p .answer) (s .number ∷ (s .values ++ s .memory))
 
 -- an answer, and what is printed of it
 abbrev pub shown : Outcome → Outcome
@@ -117,8 +112,8 @@ cases =
     (build 1000 shop (lent 85), outcome (Built 84) (stored 1000 ++ 7 ∷ []))
     ∷ (build 1000 shop (lent 84), outcome (Built 84) (stored 1000))
     ∷ (build 1000 shop (lent 83), outcome (Refused 9) (lent 83))
-    ∷ (seen (build 1000 shop (lent 84) .answer) noPlan, outcome (Built 84) (0 ∷ 3 ∷ 84 ∷ 0 ∷ 0 ∷ []))
-    ∷ (seen (build 1000 shop (lent 83) .answer) noPlan, outcome (Refused 9) (9 ∷ 7 ∷ 7 ∷ 7 ∷ 7 ∷ []))
+    ∷ (told (build 1000 shop (lent 84)), outcome (Built 84) (0 ∷ 3 ∷ 84 ∷ 0 ∷ 0 ∷ []))
+    ∷ (told (build 1000 shop (lent 83)), outcome (Refused 9) (9 ∷ 7 ∷ 7 ∷ 7 ∷ 7 ∷ []))
     -- (b) T 667: stored; T 666: not
     ∷ (build 667 shop (lent 84), outcome (Built 84) (stored 667))
     ∷ (build 666 shop (lent 84), outcome (Built 80) (unstored 666 ++ 7 ∷ 7 ∷ 7 ∷ 7 ∷ []))
@@ -128,14 +123,14 @@ cases =
       outcome PlanAnswer (2 ∷ 0 ∷ 0 ∷ 4 ∷ 1 ∷ 0 ∷ 0 ∷ 0 ∷ 0 ∷ 0 ∷ 0 ∷ 0 ∷ 0 ∷ 0 ∷ 0 ∷ 0 ∷ 3 ∷ []),
     )
     ∷ (
-      seenPlan (plan (stored 1000) check),
+      toldPlan (plan (stored 1000) check),
       outcome PlanAnswer (0 ∷ 4 ∷ 3 ∷ 0 ∷ 0 ∷ 2 ∷ 0 ∷ 0 ∷ 4 ∷ 1 ∷ 0 ∷ 0 ∷ 0 ∷ 0 ∷ 0 ∷ 0 ∷ 0 ∷ 0 ∷ 0 ∷ 0 ∷ 0 ∷ []),
     )
     ∷ (run (stored 1000) check chosenPlan (lent 4), outcome (Rows 1 3) (11 ∷ 21 ∷ 30 ∷ 7 ∷ []))
     ∷ (run (stored 1000) check writtenPlan (lent 4), outcome (Rows 1 3) (11 ∷ 21 ∷ 30 ∷ 7 ∷ []))
     ∷ (run (stored 1000) check chosenPlan (lent 2), outcome (Refused 21) (7 ∷ 7 ∷ []))
     ∷ (run (stored 1000) check chosenPlan (lent 3), outcome (Rows 1 3) (11 ∷ 21 ∷ 30 ∷ []))
-    ∷ (seen (run (stored 1000) check chosenPlan (lent 3) .answer) noPlan, outcome (Rows 1 3) (0 ∷ 1 ∷ 1 ∷ 3 ∷ 0 ∷ []))
+    ∷ (told (run (stored 1000) check chosenPlan (lent 3)), outcome (Rows 1 3) (0 ∷ 1 ∷ 1 ∷ 3 ∷ 0 ∷ []))
     ∷ (
       outcome PlanAnswer
           (joinWords check
@@ -173,7 +168,7 @@ cases =
     -- (g) ?0 covers ?0
     ∷ (run (stored 1000) (0x01 ∷ 0x01 ∷ 0x02 ∷ 0x01 ∷ []) (0x00 ∷ 0x00 ∷ []) (lent 1), outcome None (7 ∷ []))
     ∷ (
-      seen (run (stored 1000) (0x01 ∷ 0x01 ∷ 0x02 ∷ 0x01 ∷ []) (0x00 ∷ 0x00 ∷ []) (lent 1) .answer) noPlan,
+      told (run (stored 1000) (0x01 ∷ 0x01 ∷ 0x02 ∷ 0x01 ∷ []) (0x00 ∷ 0x00 ∷ []) (lent 1)),
       outcome None (0 ∷ 2 ∷ 0 ∷ 0 ∷ 0 ∷ []),
     )
     -- (h) a cross join
@@ -192,7 +187,7 @@ cases =
       outcome (Refused 12) (0 ∷ 0 ∷ 0 ∷ 0 ∷ 0 ∷ 0 ∷ 0 ∷ 0 ∷ 0 ∷ 0 ∷ 0 ∷ 0 ∷ 0 ∷ 0 ∷ 0 ∷ 0 ∷ 0 ∷ []),
     )
     ∷ (
-      seenPlan (plan (stored 1000) (0x00 ∷ [])),
+      toldPlan (plan (stored 1000) (0x00 ∷ [])),
       outcome (Refused 12) (12 ∷ 7 ∷ 7 ∷ 7 ∷ 7 ∷ 7 ∷ 7 ∷ 7 ∷ 7 ∷ 7 ∷ 7 ∷ 7 ∷ 7 ∷ 7 ∷ 7 ∷ 7 ∷ 7 ∷ 7 ∷ 7 ∷ 7 ∷ 7 ∷ []),
     )
     ∷ (run (stored 1000) (0x00 ∷ []) [] (lent 1), outcome (Refused 12) (7 ∷ []))
@@ -211,5 +206,5 @@ cases =
     ∷ []
 
 pub worked : map (λ c. c .0) cases ≡ map (λ c. c .1) cases
-unfolding after ask repeated wholeFile numberWithin numberIn number isSite facts isFact declaration row tables siteFile readSite vp semiJoin isStored semiJoins storedRows semiJoinEntries layout tablesIn decoded isStoreOf storeOf variables width fullTable askPosition askPredicate triplePattern patternFile readPattern qualifies reducedTable chosenTable mayChoose step readPlan tableRows chooseTable isJoined termCount chosenRows beats competitors pick order planned terms rowsOver isSolution solutions extend joinTable joined joinRows either build plan noneByCounts rowsOutcome run numberOf valuesOf planBytesOf isRefused planAndRun chain decimalWithin decimal spaced rowLine firstLine rowLines printed
+unfolding after ask repeated wholeFile numberWithin numberIn number isSite facts isFact declaration row tables siteFile readSite vp semiJoin isStored semiJoins storedRows semiJoinEntries layout tablesIn decoded isStoreOf storeOf variables width fullTable askPosition askPredicate triplePattern patternFile readPattern qualifies reducedTable chosenTable mayChoose step readPlan tableRows chooseTable isJoined termCount chosenRows beats competitors pick order planned terms rowsOver isSolution solutions extend joinTable joined joinRows either build checked plan noneByCounts rowsOutcome run numberOf valuesOf planBytesOf isRefused planAndRun chain decimalWithin decimal spaced rowLine firstLine rowLines printed
 worked = refl

@@ -20,7 +20,7 @@ use Rattle.model.specs.Plan.{Plan, isPlace, isStep, mayChoose, isProper}
 use Rattle.model.specs.PlanFile.{stepNumbers, planBytes}
 use Rattle.model.specs.Planner.{planned}
 use Rattle.model.specs.Solutions.{solutions}
-use Rattle.model.specs.Calls.{outcome, either, build, planNumbers, plan, noneByCounts, rowsOutcome, run}
+use Rattle.model.specs.Calls.{outcome, either, build, checked, planNumbers, plan, noneByCounts, rowsOutcome, run}
 use Rattle.model.specs.Chain.{chainThreshold, chainStoreWords, isRefused, unlessRefused, stepBytes, planAndRun, chain}
 use Rattle.model.specs.declared.answer.Answer.the-variants.{None}
 use Rattle.model.proofs.Booleans.{and-cases}
@@ -82,7 +82,7 @@ module _ (site : Site) (check memory : List ℕ) (pattern : Pattern) (read : rea
   by-counts false e = refl
 
   store-runs : (t : ℕ) (words : List ℕ) → Holds words t site → planAndRun words check memory ≡ rowsOutcome (width pattern) (solutions site pattern) memory
-  unfolding planAndRun isRefused plan run either
+  unfolding planAndRun isRefused checked plan run either
   store-runs t words holds =
       let store = storeAt t site in
       let decodes = store-complete words t site holds in

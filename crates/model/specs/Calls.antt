@@ -69,6 +69,22 @@ build t bytes memory =
     either (unaltered memory) (readSite bytes) λ site.
     filled t site memory
 
+-- ---- a check over a store: every call that is given one begins with it
+
+pub record Check : Type 0 where
+  pub store : Store
+  pub pattern : Pattern
+
+abbrev pub checkOf : Store → Pattern → Check
+checkOf store pattern = record { store = store; pattern = pattern }
+
+-- questions 10 to 17
+unfoldable pub checked : List ℕ → List ℕ → Reply Check
+checked words bytes =
+    either refused (storeReply (storeOf words)) λ store.
+    either refused (readPattern (store .site) bytes) λ pattern.
+    gives (checkOf store pattern)
+
 -- ---- plan
 
 -- n numbers: those given, then zeros
@@ -85,19 +101,19 @@ withPlan answer plan = record { answer = answer; plan = planNumbers plan }
 -- zeros stand beside a refusal
 unfoldable pub plan : List ℕ → List ℕ → Planned
 plan words bytes =
-    either (λ n. withPlan (Refused n) []) (storeReply (storeOf words)) λ store.
-    either (λ n. withPlan (Refused n) []) (readPattern (store .site) bytes) λ pattern.
-    withPlan PlanAnswer (planned store pattern)
+    either (λ n. withPlan (Refused n) []) (checked words bytes) λ check.
+    withPlan PlanAnswer (planned (check .store) (check .pattern))
 
 -- ---- run
 
--- some table that qualifies between two places, stored or not, or the VP table of a predicate named has a count of 0
+-- some table that qualifies for place i, stored or not, has a count of 0
+abbrev pub emptyAgainst : Site → Pattern → ℕ → Bool
+emptyAgainst site pattern i =
+    any (λ j. any (λ k. qualifies pattern i j k && eqb (length (reducedTable site pattern i j k)) 0) kinds) (places pattern)
+
+-- such a table, or the VP table of a predicate named has a count of 0
 unfoldable pub noneByCounts : Site → Pattern → Bool
-noneByCounts site pattern = any (λ i. eqb (length (fullTable site pattern i)) 0 || emptyAgainst i) (places pattern)
-  where
-    emptyAgainst : ℕ → Bool
-    emptyAgainst i =
-        any (λ j. any (λ k. qualifies pattern i j k && eqb (length (reducedTable site pattern i j k)) 0) kinds) (places pattern)
+noneByCounts site pattern = any (λ i. eqb (length (fullTable site pattern i)) 0 || emptyAgainst site pattern i) (places pattern)
 
 -- rows of v words: None where there is none; 21 where they do not fit
 unfoldable pub rowsOutcome : ℕ → List (List ℕ) → List ℕ → Outcome
@@ -108,10 +124,11 @@ rowsOutcome v (r ∷ rs) memory =
 
 unfoldable pub run : List ℕ → List ℕ → List ℕ → List ℕ → Outcome
 run words bytes planBytes memory =
-    either (unaltered memory) (storeReply (storeOf words)) λ store.
-    either (unaltered memory) (readPattern (store .site) bytes) λ pattern.
-    either (unaltered memory) (readPlan store pattern planBytes) λ _.
-    cond (noneByCounts (store .site) pattern) (outcome None memory) (rowsOutcome (width pattern) (solutions (store .site) pattern) memory)
+    either (unaltered memory) (checked words bytes) λ check.
+    either (unaltered memory) (readPlan (check .store) (check .pattern) planBytes) λ _.
+    let site = check .store .site in
+    let pattern = check .pattern in
+    cond (noneByCounts site pattern) (outcome None memory) (rowsOutcome (width pattern) (solutions site pattern) memory)
 
 -- ---- the number and the values of an answer
 
@@ -123,14 +140,32 @@ numberOf (Built words) = 0
 numberOf PlanAnswer = 0
 numberOf (Refused n) = n
 
--- what the four lent words of an answer hold afterwards: its kind and its values, unused words 0; a refusal leaves them
-unfoldable pub valuesOf : Answer → PlanNumbers → List ℕ → List ℕ
-valuesOf (Rows count width) plan lent = 1 ∷ count ∷ width ∷ 0 ∷ []
-valuesOf None plan lent = 2 ∷ 0 ∷ 0 ∷ 0 ∷ []
-valuesOf (Built words) plan lent = 3 ∷ words ∷ 0 ∷ 0 ∷ []
-valuesOf PlanAnswer plan lent = 4 ∷ plan .count ∷ 0 ∷ 0 ∷ []
-valuesOf (Refused n) plan lent = lent
+-- what the four lent words of an answer hold afterwards: its kind and its values, a plan's the count of its steps, unused words 0;
+-- a refusal leaves them
+unfoldable pub valuesOf : Answer → ℕ → List ℕ → List ℕ
+valuesOf (Rows count width) steps lent = 1 ∷ count ∷ width ∷ 0 ∷ []
+valuesOf None steps lent = 2 ∷ 0 ∷ 0 ∷ 0 ∷ []
+valuesOf (Built words) steps lent = 3 ∷ words ∷ 0 ∷ 0 ∷ []
+valuesOf PlanAnswer steps lent = 4 ∷ steps ∷ 0 ∷ 0 ∷ []
+valuesOf (Refused n) steps lent = lent
 
 -- what the sixteen lent bytes of a plan hold afterwards: its numbers; a refusal leaves them
 unfoldable pub planBytesOf : Planned → List ℕ → List ℕ
 planBytesOf planned lent = cond (eqb (numberOf (planned .answer)) 0) (planned .plan .steps) lent
+
+-- what a caller in C sees: the number returned, the memory lent, and the four words lent for the answer
+pub record Seen : Type 0 where
+  pub number : ℕ
+  pub memory : List ℕ
+  pub values : List ℕ
+
+abbrev pub seen : ℕ → List ℕ → List ℕ → Seen
+seen number memory values = record { number = number; memory = memory; values = values }
+
+-- of an outcome, which is no plan's
+abbrev pub seenOf : Outcome → List ℕ → Seen
+seenOf o values = seen (numberOf (o .answer)) (o .memory) (valuesOf (o .answer) 0 values)
+
+-- of a plan, whose memory are the bytes lent for its steps
+abbrev pub seenOfPlan : Planned → List ℕ → List ℕ → Seen
+seenOfPlan p steps values = seen (numberOf (p .answer)) (planBytesOf p steps) (valuesOf (p .answer) (p .plan .count) values)

@@ -2,4 +2,4 @@
 pub mod MemberLaws
 pub mod PatternReading
 pub mod PatternFileReading
-pub mod CheckReplies
+pub mod ReplyLaws

@@ -164,4 +164,4 @@ module _ (site : Site) (s : List ℕ) where
       → PatternReadAs site (readPattern site s) (record { refusal = 0; pattern = upTo members n })
   returns-pattern {n} {i} {members} e t v h k =
       let all : n ≡ i = omega (arith, v .part .count, pattern-length (v .holds .counted)) in
-      rw (pattern-given e t _ (every-member v h) k) (refl, rw all (v .holds), ap (λ (j : ℕ). patternIn (upTo members j)) all)
+      rw (pattern-given e t _ (every-member v h) k) (refl, (rw all (v .holds), ap (λ (j : ℕ). patternIn (upTo members j)) all))

@@ -5,10 +5,8 @@ use mathlib.Core.List.{List}
 use lib.ListN.{drop}
 use Rattle.model.specs.Reader.{Reply, refused, gives, Reader}
 use Rattle.model.specs.Site.{Site}
-use Rattle.model.specs.Store.{storeOf}
 use Rattle.model.specs.Pattern.{Pattern, positions, variables, width}
-use Rattle.model.specs.PatternFile.{triplePattern, readPattern}
-use Rattle.model.specs.Calls.{either, storeReply}
+use Rattle.model.specs.PatternFile.{triplePattern}
 use Rattle.model.specs.declared.pattern.TriplePattern.{TriplePattern}
 use Rattle.patterns.specs.Members.{patternIn, TableOf, PatternHolds}
 use Rattle.patterns.specs.declared.pattern.Member.{Member}
@@ -32,11 +30,10 @@ MemberReadAs site n (gives x) s r =
 abbrev pub MemberReadOf : Site → ℕ → ℕ → List ℕ → MemberRead → Type 0
 MemberReadOf site n at s r = (done : Pattern) → width done ≡ n → MemberReadAs site n (triplePattern site done (drop at s)) s r
 
--- a pattern; a refusal's number is not 0
-abbrev pub PatternReadAs : Site → Reply Pattern → PatternRead → Type 0
-PatternReadAs site (refused n) r = (r .refusal ≡ n) × (0 < n)
-PatternReadAs site (gives pattern) r = (r .refusal ≡ 0) × PatternHolds site (r .pattern) × (patternIn (r .pattern) ≡ pattern)
+-- a reply by its number: that of a refusal, which is not 0, or 0 and what is given
+abbrev pub ReplyAs : {A : Type 0} → ℕ → (A → Type 0) → Reply A → Type 0
+ReplyAs number Given (refused n) = (number ≡ n) × (0 < n)
+ReplyAs number Given (gives a) = (number ≡ 0) × Given a
 
--- questions 10 to 17
-abbrev pub checkReply : List ℕ → List ℕ → Reply Pattern
-checkReply words bytes = either refused (storeReply (storeOf words)) (λ store. readPattern (store .site) bytes)
+abbrev pub PatternReadAs : Site → Reply Pattern → PatternRead → Type 0
+PatternReadAs site reply r = ReplyAs (r .refusal) (λ pattern. PatternHolds site (r .pattern) × (patternIn (r .pattern) ≡ pattern)) reply

@@ -1,5 +1,4 @@
-// The pattern of a check, its positions, and its reader: questions 10 to 17.
+// The pattern of a check, its positions, and its reader: questions 11 to 17.
 pub mod pattern;
 pub mod pattern_reader;
 pub mod positions;
-pub mod questions;

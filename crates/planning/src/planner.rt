@@ -2,23 +2,17 @@ ghost use mathlib.Core.Path.{_≡_};
 ghost use Prim.Native.Nat.{_≤_};
 ghost use lib.ListN.{length};
 ghost use Rattle.model.specs.Planner.{planned};
-ghost use Rattle.model.specs.Calls.{planNumbers, withPlan, plan as planCall};
+ghost use Rattle.model.specs.Calls.{planNumbers};
 ghost use Rattle.model.specs.Store.{decoded};
-ghost use Rattle.model.specs.declared.answer.Answer.the-variants.{Refused};
-ghost use mathlib.Core.List.{[]};
 ghost use Rattle.catalog.specs.Lookups.{Validated};
 ghost use Rattle.patterns.specs.Members.{patternIn, PatternHolds};
 ghost use Rattle.plans.specs.Choices.{TablesChosen};
 use crate::ordering::mark_joined;
 use crate::ordering::pick;
-use model::answer::Answer;
-use model::answer::Planned;
 use model::plan::Plan;
 use patterns::pattern::Pattern;
 use patterns::positions::term_count;
-use patterns::questions::read_check;
 use plans::choosing::choose_table;
-use plans::steps::no_plan;
 
 // For each place: the choice of its table, the rows of that table, and the terms among its positions.
 pub fn choose_tables(
@@ -63,32 +57,5 @@ pub fn plan_pattern(w: &[u32], pattern: Pattern) -> Plan
     Plan {
         steps,
         count: pattern.count,
-    }
-}
-
-// Zeros stand beside a refusal.
-fn plan_refused(refusal: u32) -> Planned
-    ensures { λ r. ⌜ r ≡ withPlan (Refused refusal) [] ⌝ }
-{
-    let plan = no_plan();
-    Planned {
-        answer: Answer::Refused(refusal),
-        plan,
-    }
-}
-
-// Plans a check over a store.
-pub fn plan(w: &[u32], s: &[u8]) -> Planned
-    ensures { λ r. ⌜ r ≡ planCall (now (w .entry)) (now (s .entry)) ⌝ }
-{
-    let read = read_check(w, s);
-    let refusal = read.refusal;
-    if refusal != 0 {
-        return plan_refused(refusal);
-    }
-    let plan = plan_pattern(w, read.pattern);
-    Planned {
-        answer: Answer::Plan,
-        plan,
     }
 }

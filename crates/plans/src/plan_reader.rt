@@ -5,7 +5,6 @@ ghost use Rattle.catalog.specs.Lookups.{Validated};
 ghost use Rattle.patterns.specs.Members.{patternIn, PatternHolds};
 ghost use Rattle.plans.specs.Replies.{PlanReadAs};
 use crate::choosing::may_choose;
-use crate::steps::no_plan;
 use model::plan::Plan;
 use patterns::pattern::Pattern;
 use tables::number::Number;
@@ -21,7 +20,10 @@ pub struct PlanRead {
 fn plan_refused(refusal: u32) -> PlanRead
     ensures { λ r. ⌜ r .refusal ≡ refusal ⌝ }
 {
-    let plan = no_plan();
+    let plan = Plan {
+        steps: [0u8; 16],
+        count: 0,
+    };
     PlanRead { refusal, plan }
 }
 

@@ -5,4 +5,4 @@ pub mod Variables
 pub mod PlanRows
 pub mod TableRows
 pub mod Rearranged
-pub mod RunReplies
+pub mod GivenPlan

@@ -1,4 +1,3 @@
 -- What the functions of this crate are held to, in terms of the definitions.
-pub mod Emptiness
 pub mod Chosen
 pub mod WholeTable

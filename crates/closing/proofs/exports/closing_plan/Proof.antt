@@ -6,6 +6,7 @@ use borrow.Author.Needs.{needs}
 use borrow.Author.Tests.{eq-eqb, ne-eqb}
 use Rattle.model.specs.Calls.{numberOf, planBytesOf}
 use Rattle.model.specs.declared.answer.Planned.{Planned}
+use Rattle.closing.proofs.Reported.{plan-reported}
 use Rattle.closing.proofs.exports.closing_plan.Statement.{statement}
 use Rattle.closing.proofs.exports.closing_plan.Tie as tie
 
@@ -27,12 +28,12 @@ report-requires c κs = search needs
 returns : tie.Need-returns
 returns c =
     let told = c .before .before .report .ensures in
-    rw (← (c .before .before .before .before .before .plan .ensures)) (told .0, (steps-given _ _ (sym (told .0) ∙ c .before .if1 .taken), told .1))
+    rw (← (c .before .before .before .before .before .plan .ensures)) (plan-reported _ _ _ told (steps-given _ _ (sym (told .0) ∙ c .before .if1 .taken)))
 
 returns-2 : tie.Need-returns-2
 returns-2 c =
     let told = c .before .report .ensures in
-    rw (← (c .before .before .before .before .plan .ensures)) (told .0, (steps-kept _ _ (λ e. c .if1 .left (told .0 ∙ e)), told .1))
+    rw (← (c .before .before .before .before .plan .ensures)) (plan-reported _ _ _ told (steps-kept _ _ (λ e. c .if1 .left (told .0 ∙ e))))
 
 pub closing-plan-spec : {M : Type 1} → statement M
 closing-plan-spec = tie.close (tie.spec plan-requires report-requires returns returns-2)
