@@ -23,7 +23,7 @@ use Rattle.model.proofs.Refusals.{pattern-refuses}
 use Rattle.tables.specs.NumberAt.{numberAt}
 use Rattle.tables.specs.declared.number.Number.the-variants.{Value, Bad}
 use Rattle.tables.proofs.NumberReplies.{number-bad, number-value}
-use Rattle.patterns.specs.Members.{noMember, patternIn, TableOf, PatternHolds}
+use Rattle.patterns.specs.Members.{noMember, patternIn, MemberOf, PatternHolds}
 use Rattle.patterns.specs.Replies.{MemberReadAs, MemberReadOf, PatternReadAs}
 use Rattle.patterns.specs.declared.pattern.Member.{Member}
 use Rattle.patterns.specs.declared.pattern.Pattern.{Pattern as Members}
@@ -45,7 +45,7 @@ module _ (site : Site) (met : ℕ) (s : List ℕ) {r : MemberRead} where
 
   was-given : (reply : Reply (TriplePattern × List ℕ)) {member : Member} {count next : ℕ} → MemberReadAs site met reply s r
       → r ≡ MemberGiven member count next
-      → (reply ≡ gives (member .triple, drop next s)) × (count ≡ variables met (positions (member .triple))) × TableOf site member
+      → (reply ≡ gives (member .triple, drop next s)) × (count ≡ variables met (positions (member .triple))) × MemberOf site member
   was-given (refused n) t e = let z : _≡_ {A = ℕ} 0 1 = cc in absurd (omega arith)
   was-given (gives x) {member} {count} {next} t e =
       let same : t .0 ≡ member = cc in
@@ -53,21 +53,20 @@ module _ (site : Site) (met : ℕ) (s : List ℕ) {r : MemberRead} where
       let total : count ≡ variables met (positions (x .0)) = cc in
       let triple : x .0 ≡ member .triple = sym (t .4) ∙ ap (λ (m : Member). m .triple) same in
       let rest : x .1 ≡ drop next s = t .3 ∙ ap (λ (k : ℕ). drop k s) place in
-      (gives-same triple rest, total ∙ ap (λ (q : TriplePattern). variables met (positions q)) triple, subst (TableOf site) same (t .5))
+      (gives-same triple rest, total ∙ ap (λ (q : TriplePattern). variables met (positions q)) triple, subst (MemberOf site) same (t .5))
 
 -- ---- the triple patterns, read one by one
 
--- the first i cells of an array
-abbrev pub upTo : List Member → ℕ → Members
-upTo members i = record { members = members; count = i }
+-- the first i cells of an array, and their variables
+abbrev pub upTo : List Member → ℕ → ℕ → Members
+upTo members i met = record { members = members; count = i; width = met }
 
 -- of n triple patterns, i were read, they stand in the array, and they have `met` variables
 pub record MembersRead (site : Site) (n : ℕ) (bytes s : List ℕ) (members : List Member) (met next i : ℕ) : Type 0 where
   pub most : n ≤ mostTriplePatterns
   pub size : length members ≡ mostTriplePatterns
-  pub part : PartRead (triplePattern site) n bytes (patternIn (upTo members i)) (drop next s)
-  pub holds : PatternHolds site (upTo members i)
-  pub counted : met ≡ width (patternIn (upTo members i))
+  pub part : PartRead (triplePattern site) n bytes (patternIn (upTo members i met)) (drop next s)
+  pub holds : PatternHolds site (upTo members i met)
   pub few : met ≤ mostVariables
 
 -- one triple pattern more
@@ -75,9 +74,9 @@ width-snoc : (done : Pattern) (q : TriplePattern) → width (done ++ q ∷ []) �
 unfolding width
 width-snoc done q = ap (variables 0) (concatMap-append positions done (q ∷ [])) ∙ variables-append 0 (concatMap positions done) (positions q)
 
-members-snoc : (members : List Member) (i : ℕ) (m : Member) → i < length members
-    → patternIn (upTo (set members i m) (i + 1)) ≡ patternIn (upTo members i) ++ m .triple ∷ []
-members-snoc members i m h = rw (add-one, take-suc-set members i m h) (map-append (λ (m : Member). m .triple) (take i members) (m ∷ []))
+members-snoc : (members : List Member) (i met count : ℕ) (m : Member) → i < length members
+    → patternIn (upTo (set members i m) (i + 1) count) ≡ patternIn (upTo members i met) ++ m .triple ∷ []
+members-snoc members i met count m h = rw (add-one, take-suc-set members i m h) (map-append (λ (m : Member). m .triple) (take i members) (m ∷ []))
 
 pub no-member-read : {site : Site} {n at : ℕ} {s : List ℕ} {members : List Member} → n ≤ mostTriplePatterns → length members ≡ mostTriplePatterns
     → MembersRead site n (drop at s) s members 0 at 0
@@ -86,29 +85,28 @@ no-member-read h e = record {
   most = h;
   size = e;
   part = none-read;
-  holds = record { counted = record { few = omega arith; cells = omega arith }; tables = λ i k. absurd (omega arith) };
-  counted = refl;
+  holds = record { counted = record { few = omega arith; cells = omega arith }; tables = λ i k. absurd (omega arith); wide = refl };
   few = omega arith;
 }
 
 module _ {site : Site} {n : ℕ} {bytes s : List ℕ} {members : List Member} {met next i : ℕ} (v : MembersRead site n bytes s members met next i) where
-  pub every-member : n ≤ i → repeated (triplePattern site) n [] bytes ≡ gives (patternIn (upTo members i), drop next s)
+  pub every-member : n ≤ i → repeated (triplePattern site) n [] bytes ≡ gives (patternIn (upTo members i met), drop next s)
   every-member h = all-read (v .part) (rw (pattern-length (v .holds .counted)) h)
 
   module _ (more : i < n) where
-    one-left : length (patternIn (upTo members i)) < n
+    one-left : length (patternIn (upTo members i met)) < n
     one-left = rw (pattern-length (v .holds .counted)) more
 
     module _ {r : MemberRead} (read : MemberReadOf site met next s r) where
       pub next-member-refused : {m : ℕ} → r ≡ Refused m → repeated (triplePattern site) n [] bytes ≡ refused m
-      next-member-refused e = next-refused (v .part) one-left (was-refused site met s _ (read _ (sym (v .counted))) e)
+      next-member-refused e = next-refused (v .part) one-left (was-refused site met s _ (read _ (sym (v .holds .wide))) e)
 
       pub next-member-read : {member : Member} {count after : ℕ} → r ≡ MemberGiven member count after
           → MembersRead site n bytes s (set members i member) count after (i + 1)
       next-member-read {member} {count} {after} e =
-          let done = patternIn (upTo members i) in
-          let grown = members-snoc members i member (omega (arith, v .most, v .size)) in
-          let (given, total, table) = was-given site met s _ (read done (sym (v .counted))) e in
+          let done = patternIn (upTo members i met) in
+          let grown = members-snoc members i met count member (omega (arith, v .most, v .size)) in
+          let (given, total, table) = was-given site met s _ (read done (sym (v .holds .wide))) e in
           let passes = triple-reads site .read done (drop next s) given .0 in
           record {
             most = v .most;
@@ -117,12 +115,12 @@ module _ {site : Site} {n : ℕ} {bytes s : List ℕ} {members : List Member} {m
             holds = record {
               counted = record { few = omega (arith, v .most); cells = rw length-set (omega (arith, v .most, v .size)) };
               tables = λ j h. go table j h (eqb j i) refl;
+              wide = rw (grown, width-snoc, ← v .holds .wide) total;
             };
-            counted = rw (grown, width-snoc, ← v .counted) total;
-            few = rw total (triple-limit site met (member .triple) (rw (v .counted) passes) (v .few));
+            few = rw total (triple-limit site met (member .triple) (rw (v .holds .wide) passes) (v .few));
           }
         where
-          go : TableOf site member → (j : ℕ) → j < i + 1 → (b : Bool) → eqb j i ≡ b → TableOf site (getD (set members i member) j noMember)
+          go : MemberOf site member → (j : ℕ) → j < i + 1 → (b : Bool) → eqb j i ≡ b → MemberOf site (getD (set members i member) j noMember)
           go table j h true e = rw (eqb-true j i e, getD-set-same members i member noMember (omega (arith, v .most, v .size))) table
           go table j h false e =
               let other = eqb-false j i e in
@@ -161,7 +159,7 @@ module _ (site : Site) (s : List ℕ) where
 
   pub returns-pattern : {n at met next i : ℕ} {members : List Member} → numberAt s 0 ≡ Value n at → isPatternLength n ≡ true
       → MembersRead site n (drop at s) s members met next i → n ≤ i → length s ≤ next
-      → PatternReadAs site (readPattern site s) (record { refusal = 0; pattern = upTo members n })
-  returns-pattern {n} {i} {members} e t v h k =
+      → PatternReadAs site (readPattern site s) (record { refusal = 0; pattern = upTo members n met })
+  returns-pattern {n} {met = met} {i = i} {members = members} e t v h k =
       let all : n ≡ i = omega (arith, v .part .count, pattern-length (v .holds .counted)) in
-      rw (pattern-given e t _ (every-member v h) k) (refl, (rw all (v .holds), ap (λ (j : ℕ). patternIn (upTo members j)) all))
+      rw (pattern-given e t _ (every-member v h) k) (refl, (rw all (v .holds), ap (λ (j : ℕ). patternIn (upTo members j met)) all))

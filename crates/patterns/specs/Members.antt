@@ -4,16 +4,17 @@ use mathlib.Core.Path.{_≡_}
 use mathlib.Core.List.{map}
 use lib.ListN.{length, getD, take, replicate}
 use Rattle.model.specs.Site.{Site, tableAt}
-use Rattle.model.specs.Pattern.{Pattern, mostTriplePatterns, noTriplePattern}
+use Rattle.model.specs.Pattern.{Pattern, mostTriplePatterns, noTriplePattern, width}
+use Rattle.model.specs.PatternFile.{positionOf}
 use Rattle.model.specs.declared.pattern.Position.the-variants.{Term}
 use Rattle.patterns.specs.declared.pattern.Member.{Member}
 use Rattle.patterns.specs.declared.pattern.Pattern.{Pattern as Members}
 
 abbrev pub noMember : Member
-noMember = record { triple = noTriplePattern; table = 0 }
+noMember = record { triple = noTriplePattern; table = 0; subject = 0; object = 0 }
 
 abbrev pub noPattern : Members
-noPattern = record { members = replicate mostTriplePatterns noMember; count = 0 }
+noPattern = record { members = replicate mostTriplePatterns noMember; count = 0; width = 0 }
 
 abbrev pub memberAt : Members → ℕ → Member
 memberAt pattern i = getD (pattern .members) i noMember
@@ -22,17 +23,20 @@ memberAt pattern i = getD (pattern .members) i noMember
 abbrev pub patternIn : Members → Pattern
 patternIn pattern = map (λ m. m .triple) (take (pattern .count) (pattern .members))
 
--- the predicate is the one at that place of the site
-pub record TableOf (site : Site) (m : Member) : Type 0 where
+-- the predicate is the one at that place of the site, and the numbers are those of the positions
+pub record MemberOf (site : Site) (m : Member) : Type 0 where
   pub inside : m .table < length site
   pub predicate : m .triple .predicate ≡ Term (tableAt site (m .table) .predicate)
+  pub subject : positionOf (m .subject) ≡ m .triple .subject
+  pub object : positionOf (m .object) ≡ m .triple .object
 
 -- the count is that of triple patterns which stand in the array
 pub record PatternCells (pattern : Members) : Type 0 where
   pub few : pattern .count ≤ mostTriplePatterns
   pub cells : pattern .count ≤ length (pattern .members)
 
--- the pattern, with the places of its predicates in a site
+-- the pattern, with the places of its predicates in a site, and its width
 pub record PatternHolds (site : Site) (pattern : Members) : Type 0 where
   pub counted : PatternCells pattern
-  pub tables : (i : ℕ) → i < pattern .count → TableOf site (memberAt pattern i)
+  pub tables : (i : ℕ) → i < pattern .count → MemberOf site (memberAt pattern i)
+  pub wide : pattern .width ≡ width (patternIn pattern)

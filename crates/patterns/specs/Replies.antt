@@ -8,7 +8,7 @@ use Rattle.model.specs.Site.{Site}
 use Rattle.model.specs.Pattern.{Pattern, positions, variables, width}
 use Rattle.model.specs.PatternFile.{triplePattern}
 use Rattle.model.specs.declared.pattern.TriplePattern.{TriplePattern}
-use Rattle.patterns.specs.Members.{patternIn, TableOf, PatternHolds}
+use Rattle.patterns.specs.Members.{patternIn, MemberOf, PatternHolds}
 use Rattle.patterns.specs.declared.pattern.Member.{Member}
 use Rattle.patterns.specs.declared.pattern_reader.MemberRead.{MemberRead}
 use Rattle.patterns.specs.declared.pattern_reader.MemberRead.the-variants.{Member as MemberGiven, Refused}
@@ -24,7 +24,7 @@ abbrev pub MemberReadAs : Site → ℕ → Reply (TriplePattern × List ℕ) →
 MemberReadAs site n (refused m) s r = r ≡ Refused m
 MemberReadAs site n (gives x) s r =
     (member : Member) × (next : ℕ) × (r ≡ MemberGiven member (variables n (positions (x .0))) next)
-    × (x .1 ≡ drop next s) × (member .triple ≡ x .0) × TableOf site member
+    × (x .1 ≡ drop next s) × (member .triple ≡ x .0) × MemberOf site member
 
 -- the triple pattern at a place of the bytes, behind any that have n variables
 abbrev pub MemberReadOf : Site → ℕ → ℕ → List ℕ → MemberRead → Type 0

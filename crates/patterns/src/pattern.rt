@@ -8,16 +8,19 @@ pub const MOST_TRIPLE_PATTERNS: usize = 8;
 
 pub const MOST_VARIABLES: u32 = 8;
 
-// A triple pattern of a check, and the place of its predicate among those that the store declares.
+// A triple pattern of a check, the place of its predicate among those that the store declares, and its subject and object as numbers.
 pub struct Member {
     pub triple: TriplePattern,
     pub table: usize,
+    pub subject: u32,
+    pub object: u32,
 }
 
-// The triple patterns of a check, and their count.
+// The triple patterns of a check, their count, and V.
 pub struct Pattern {
     pub members: [Member; 8],
     pub count: usize,
+    pub width: u32,
 }
 
 // What stands at a place that a pattern does not have.
@@ -29,5 +32,10 @@ pub fn no_member() -> Member
         predicate: Position::Term(0),
         object: Position::Term(0),
     };
-    Member { triple, table: 0 }
+    Member {
+        triple,
+        table: 0,
+        subject: 0,
+        object: 0,
+    }
 }

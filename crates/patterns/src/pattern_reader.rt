@@ -68,7 +68,12 @@ pub fn read_member(w: &[u32], s: &[u8], at: usize, met: u32) -> MemberRead
         object,
     };
     MemberRead::Member(
-        Member { triple, table },
+        Member {
+            triple,
+            table,
+            subject: first,
+            object: third,
+        },
         variables_with(met_then, object),
         next,
     )
@@ -88,7 +93,11 @@ pub fn pattern_refused(refusal: u32) -> PatternRead
     let members = [none; 8];
     PatternRead {
         refusal,
-        pattern: Pattern { members, count: 0 },
+        pattern: Pattern {
+            members,
+            count: 0,
+            width: 0,
+        },
     }
 }
 
@@ -125,6 +134,10 @@ pub fn read_pattern(w: &[u32], s: &[u8]) -> PatternRead
     }
     PatternRead {
         refusal: 0,
-        pattern: Pattern { members, count },
+        pattern: Pattern {
+            members,
+            count,
+            width: met,
+        },
     }
 }

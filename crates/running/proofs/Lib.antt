@@ -1,7 +1,6 @@
 -- Laws that the proofs of this crate cite.
 pub mod EmptyTables
 pub mod StepNumbers
-pub mod Variables
 pub mod PlanRows
 pub mod TableRows
 pub mod Rearranged

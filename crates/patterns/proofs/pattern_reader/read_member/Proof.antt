@@ -194,6 +194,7 @@ variables-with-requires-2 c κs =
     passed-limit _ _ (c .before .position-refusal2 .ensures) (c .if3 .left) (rw (w .variables-with .ensures) (subject-limit k))
 
 returns-9 : tie.Need-returns-9
+unfolding subject-asked object-asked
 returns-9 c =
     let e = c .before in
     let l = e .before .before .before .before .before .before .before .before in

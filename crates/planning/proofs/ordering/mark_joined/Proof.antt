@@ -46,7 +46,7 @@ loop-again c =
     let o = c .before .before .before .before .before .before in
     let l = c .before .before .before .before .loop in
     let h : l .j < o .args .t1 .count = omega arith in
-    let e = c .before .share-variable .ensures ∙ shared-by _ h (o .pre .1) in (
+    let e = c .before .share-variable .ensures ∙ shared-by (o .args .t1) h (o .pre .1) in (
       omega arith,
       ⊎-elim
           (λ w. rw (w .1) (mark-more _ _ _ (l .inv .1) (omega arith) (sym e ∙ w .0 .taken)))
