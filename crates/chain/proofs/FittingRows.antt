@@ -19,7 +19,7 @@ use Rattle.model.specs.declared.answer.Answer.the-variants.{Rows, None, Built, 
 use Rattle.model.specs.declared.answer.Answer.the-variants.{Plan as PlanAnswer}
 use Rattle.model.proofs.Patterns.{width-limit}
 use Rattle.model.proofs.PatternFile.{pattern-accepted}
-use Rattle.model.proofs.Calls.{by-reply, by-question, by-store}
+use Rattle.model.proofs.Calls.{by-reply, by-question, by-check}
 use Rattle.chain.specs.RowsFit.{RowsFit}
 
 module _ (memory : List ℕ) where
@@ -41,10 +41,10 @@ module _ (memory : List ℕ) where
   run-fits : (words bytes steps : List ℕ) → Fits (run words bytes steps memory)
   unfolding run
   run-fits words bytes steps =
-      by-store Fits (unaltered memory) words _ tt
-      λ store _. by-reply Fits (unaltered memory) (readPattern (store .site) bytes) _ (λ n _. tt)
-      λ pattern read. by-reply Fits (unaltered memory) (readPlan store pattern steps) _ (λ n _. tt)
-      λ _ _. by-counts (noneByCounts (store .site) pattern) _ (rows-fit (store .site) bytes pattern read (solutions (store .site) pattern))
+      by-check Fits (unaltered memory) words bytes _ (λ n _. tt)
+      λ c. by-reply Fits (unaltered memory) (readPlan (c .store) (c .pattern) steps) _ (λ n _. tt)
+      λ _ _. by-counts (noneByCounts (c .store .site) (c .pattern)) _
+      (rows-fit (c .store .site) bytes (c .pattern) (c .read) (solutions (c .store .site) (c .pattern)))
 
   unless-fits : (answer : Answer) (next : Outcome) → Fits next → Fits (unlessRefused answer memory next)
   unfolding isRefused
