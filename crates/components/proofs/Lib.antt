@@ -1,5 +1,5 @@
 -- Laws that the proofs of this crate cite.
-pub mod StepParts
+pub mod StepComponents
 pub mod StepsHold
-pub mod PartSolutions
+pub mod ComponentSolutions
 pub mod Exchanges

@@ -1,3 +1,3 @@
 -- What the functions of this crate are held to, in terms of the definitions.
-pub mod StepParts
+pub mod StepComponents
 pub mod Arranged

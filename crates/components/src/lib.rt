@@ -1,3 +1,3 @@
-// The parts of a plan: steps linked by shared variables, put together, and each part asked alone.
+// The connected components of a plan: steps linked by shared variables, put together, and each component asked alone.
 pub mod arranging;
-pub mod step_parts;
+pub mod components;

@@ -22,7 +22,7 @@ use Rattle.model.specs.Plan.{Plan, placesOf, qualifies, reducedTable, ma
 use Rattle.model.specs.PlanFile.{readPlan, planBytes}
 use Rattle.model.specs.Planner.{tableRows, chooseTable, isJoined, planned}
 use Rattle.model.specs.Solutions.{IsSolution, solutions}
-use Rattle.model.specs.Parts.{PartsSolved}
+use Rattle.model.specs.Components.{ComponentsSolved}
 use Rattle.model.specs.Join.{joinRows}
 use Rattle.model.specs.Calls.{Outcome, either, unaltered, build, plan, noneByCounts, rowsOutcome, run}
 use Rattle.model.specs.Answers.{BuildAnswer, Accepted, PlanCallAnswer, RunAnswer}
@@ -37,7 +37,7 @@ use Rattle.model.proofs.Width.{stands, width-counts}
 use Rattle.model.proofs.Places.{not-against-itself, empty-reduced, empty-full}
 use Rattle.model.proofs.Solutions.{solutions-ascend, solutions-sound, solutions-complete}
 use Rattle.model.proofs.Equation.{join-solutions}
-use Rattle.model.proofs.Parts.{parts-solved}
+use Rattle.model.proofs.Components.{components-solved}
 use Rattle.model.proofs.StoreLayout.{layout-used, vp-entry, semi-join-entry}
 use Rattle.model.proofs.Stores.{store-sound, store-complete, built-holds}
 use Rattle.model.proofs.StoreSize.{store-fits}
@@ -197,13 +197,13 @@ Not-Against-Itself = (pattern : Pattern) (i : ℕ) (k : Kind) → qualifies patt
 pub other-places-only : Not-Against-Itself
 other-places-only = not-against-itself
 
--- A pattern has a solution exactly if each of its parts has one of its own: so the parts may be asked one by one.
-abbrev pub Parts-Decide : Type 0
-Parts-Decide =
-    (site : Site) (pattern : Pattern) → isAccepted site pattern ≡ true → ((row : List ℕ) × (row ∈ solutions site pattern)) ↔ PartsSolved site pattern
+-- A pattern has a solution exactly if each of its components has one of its own: so the components may be asked one by one.
+abbrev pub Components-Decide : Type 0
+Components-Decide =
+    (site : Site) (pattern : Pattern) → isAccepted site pattern ≡ true → ((row : List ℕ) × (row ∈ solutions site pattern)) ↔ ComponentsSolved site pattern
 
-pub parts-decide : Parts-Decide
-parts-decide site pattern accepted = let p = parts-solved site pattern accepted in ((λ r. p .1 (r .0) (r .1)), p .0)
+pub components-decide : Components-Decide
+components-decide site pattern accepted = let p = components-solved site pattern accepted in ((λ r. p .1 (r .0) (r .1)), p .0)
 
 -- ==== The store
 

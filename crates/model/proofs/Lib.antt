@@ -37,5 +37,5 @@ pub mod ChainRows
 pub mod Answers
 pub mod StoreSize
 pub mod FileSizes
-pub mod Parts
+pub mod Components
 pub mod Demands

@@ -17,4 +17,4 @@ pub mod Calls
 pub mod Answers
 pub mod Chain
 pub mod Text
-pub mod Parts
+pub mod Components
