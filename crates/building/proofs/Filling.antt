@@ -16,7 +16,7 @@ use Rattle.model.proofs.StoreLayout.{length-table, entry-block, semiJoinEntry, 
 use Rattle.tables.specs.SiteWords.{siteIn, ImageOf, noReduced, reducedAt, CountsIn}
 use Rattle.tables.proofs.Reduced.{length-entries-of, entries-more, stored-words-more, take-more, length-all-of}
 use Rattle.model.proofs.Setting.{sets-append, getD-sets, sets-block}
-use Rattle.tables.proofs.Images.{image-kept, few-predicates, few-semi-joins, entries-inside}
+use Rattle.tables.proofs.Images.{image-unchanged, few-predicates, few-semi-joins, entries-inside}
 
 -- ---- one semi-join more
 
@@ -83,7 +83,7 @@ module _ {count : ℕ} {image₀ : List ℕ} (o : ImageOf count image₀) where
         let es = semiJoinEntries t first (take x all) in
         let n = length-entries-of t first (take x all) in
         let m = length-take-le x all (rw (length-all-of o) h) in
-        rw (f .written) (image-kept o (vpEntryAt count) es (inr (omega arith)) (omega arith))
+        rw (f .written) (image-unchanged o (vpEntryAt count) es (inr (omega arith)) (omega arith))
 
     module _ (h : x ≡ count * (count * kindCount)) where
       whole : take x all ≡ all
@@ -105,11 +105,11 @@ module _ {count : ℕ} {image₀ : List ℕ} (o : ImageOf count image₀) where
     length-entered = length-entries-of t first all ∙ ap (λ (k : ℕ). 2 * k) (length-all-of o)
 
     image-entered : ImageOf count entered × (siteIn count entered ≡ siteIn count image₀)
-    image-entered = image-kept o (vpEntryAt count) (semiJoinEntries t first all) (inr (omega arith)) (omega (arith, length-entered))
+    image-entered = image-unchanged o (vpEntryAt count) (semiJoinEntries t first all) (inr (omega arith)) (omega (arith, length-entered))
 
     pub image-fronted : ImageOf count (sets entered 0 front) × (siteIn count (sets entered 0 front) ≡ siteIn count image₀)
     image-fronted =
-        let x = image-kept (image-entered .0) 0 front (inl (omega arith)) (omega arith) in
+        let x = image-unchanged (image-entered .0) 0 front (inl (omega arith)) (omega arith) in
         (x .0, x .1 ∙ image-entered .1)
 
     entry-count : (x : ℕ) → x < count * (count * kindCount) → getD entered (vpEntryAt count + 2 * x) 0 ≡ length (reducedAt (siteIn count image₀) x .rows)

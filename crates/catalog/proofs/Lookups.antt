@@ -17,11 +17,10 @@ use Rattle.model.specs.Store.{tableWords, rowsStart, vpEntryAt, semiJoinEntryAt
 use Rattle.model.proofs.Booleans.{and-cases}
 use Rattle.model.proofs.Membership.{at-place, into-any}
 use Rattle.model.proofs.Partition.{proper}
-use Rattle.model.proofs.Blocks.{Block, element-block, longer-block, drop-block, getD-block}
+use Rattle.model.proofs.Blocks.{Block, block-inside, element-block, longer-block, drop-block, getD-block}
 use Rattle.model.proofs.StoreLayout.{length-table, entry-and-rows, vpEntry, vp-entries, leftAt, length-layout, vp-entries-block, vp-words-block, vp-entry, semi-join-entry}
 use Rattle.model.proofs.Stores.{rows-back}
 use Rattle.model.proofs.Setting.{part-block}
-use Rattle.tables.proofs.Images.{block-inside}
 use Rattle.catalog.specs.declared.lookup.Found.the-variants.{At, Absent}
 use Rattle.catalog.specs.Lookups.{Validated, placeFrom, placeOf, RowsAt}
 use Rattle.model.proofs.Decoder.{siteOf, thresholdOf, store-holds, store-whole, store-predicates, store-used, store-inside}

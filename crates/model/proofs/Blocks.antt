@@ -1,5 +1,5 @@
 -- A block of a list: a run of elements that stands in it from some place on.
-use Prim.Native.Nat.{ℕ, suc, _+_, _*_, _<_}
+use Prim.Native.Nat.{ℕ, suc, _+_, _*_, _<_, _≤_}
 use native.Mathlib.Omega.{arith}
 use native.Mathlib.Nat.{zero-mul, suc-mul, add-comm, add-zero}
 use mathlib.Core.Path.{_≡_, refl, sym, ap, _∙_}
@@ -21,6 +21,13 @@ module _ {A : Type 0} where
 
   pub block-at : {l b : List A} {i j : ℕ} → i ≡ j → Block l i b → Block l j b
   block-at e x = rw e at x
+
+  -- a block stands inside
+  pub block-inside : {l b : List A} {i : ℕ} → Block l i b → i + length b ≤ length l
+  block-inside {l} {b} x =
+      let e = ap length (x .whole) ∙ length-append (x .before) (b ++ x .after) in
+      let f = length-append b (x .after) in
+      omega arith
 
   -- a block of a block
   pub inner-block : {l b c : List A} {i j : ℕ} → Block l i b → Block b j c → Block l (i + j) c

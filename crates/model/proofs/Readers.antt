@@ -177,13 +177,13 @@ module _ {A : Type 0} {one : List A → Reader A} {n : ℕ} {bytes : List ℕ} w
     all-read h = let none : part .left ≡ 0 = omega arith in part .same ∙ rw none refl
 
     module _ (more : length done < n) where
-      one-more : repeated one n [] bytes ≡ repeated one (suc (part .left - 1)) done rest
-      one-more = let e : part .left ≡ suc (part .left - 1) = omega arith in rw e at (part .same)
+      repeated-suc : repeated one n [] bytes ≡ repeated one (suc (part .left - 1)) done rest
+      repeated-suc = let e : part .left ≡ suc (part .left - 1) = omega arith in rw e at (part .same)
 
       pub next-refused : {m : ℕ} → one done rest ≡ refused m → repeated one n [] bytes ≡ refused m
       unfolding repeated after
-      next-refused q = one-more ∙ rw q refl
+      next-refused q = repeated-suc ∙ rw q refl
 
       pub next-read : {x : A} {rest′ : List ℕ} → one done rest ≡ gives (x, rest′) → PartRead one n bytes (done ++ x ∷ []) rest′
       unfolding repeated after
-      next-read q = record { left = part .left - 1; count = rw length-append (omega arith); same = one-more ∙ rw q refl }
+      next-read q = record { left = part .left - 1; count = rw length-append (omega arith); same = repeated-suc ∙ rw q refl }

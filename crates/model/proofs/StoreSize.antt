@@ -24,7 +24,7 @@ module _ (t : ℕ) where
       go true = filter-fewer _ (p .rows)
       go false = omega arith
 
-  -- the words kept of one predicate against another
+  -- the words stored of one predicate against another
   words-of-kinds : (p q : Table) (ks : List Kind) → length (storedWords t (map (reduced p q) ks)) ≤ 2 * (length (p .rows) * length ks)
   words-of-kinds p q [] = omega arith
   words-of-kinds p q (k ∷ ks) = rw (length-append, length-table) (omega (arith, stored-fewer p q k, words-of-kinds p q ks))

@@ -47,13 +47,13 @@ module _ {s : List ℕ} {at k value weight next : ℕ} (r : Reading s at k value
   all-read h = let z : mostNumberBytes - k ≡ 0 = omega arith in r .answer ∙ rw z refl
 
   module _ (h : k < mostNumberBytes) where
-    one-more : mostNumberBytes - k ≡ suc (mostNumberBytes - (k + 1))
-    one-more = omega arith
+    allowed-suc : mostNumberBytes - k ≡ suc (mostNumberBytes - (k + 1))
+    allowed-suc = omega arith
 
     -- there is no byte more
     pub bytes-end : length s ≤ next → numberAt s at ≡ Bad
     unfolding numberWithin
-    bytes-end l = r .answer ∙ rw (one-more, drop-of-length-le s l) refl
+    bytes-end l = r .answer ∙ rw (allowed-suc, drop-of-length-le s l) refl
 
     -- nothing overflows
     pub weight-fits : weight * 128 ≤ numberLimit
@@ -69,7 +69,7 @@ module _ {s : List ℕ} {at k value weight next : ℕ} (r : Reading s at k value
     module _ (b : ℕ) (l : next < length s) (e : b ≡ getD s next 0) where
       byte-read : numberAt s at ≡ above value weight next (cond (ltb b 128) (lastGroup (eqb k 0) b) (lowGroup b (ahead s (k + 1) (next + 1))))
       unfolding numberWithin
-      byte-read = r .answer ∙ rw (one-more, drop-cons s next 0, e, ne-eqb (k + 1) 0 (omega arith), add-one next) refl
+      byte-read = r .answer ∙ rw (allowed-suc, drop-cons s next 0, e, ne-eqb (k + 1) 0 (omega arith), add-one next) refl
 
       pub last-group : b < 128 → (b ≡ 0 → k ≡ 0) → numberAt s at ≡ Value (value + weight * b) (next + 1)
       last-group m f = byte-read ∙ rw (lt-ltb b 128 m, shortest (eqb b 0) refl) refl

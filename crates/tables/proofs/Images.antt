@@ -6,13 +6,13 @@ use mathlib.Core.Path.{_≡_, refl, sym, ap, ap₂, _∙_, subst}
 use mathlib.Core.Logic.{_⊎_, ⊎-elim}
 use mathlib.Core.Bool.{true}
 use mathlib.Core.List.{List, _++_}
-use lib.ListN.{length, getD, take, drop, length-append, take-append-drop}
+use lib.ListN.{length, getD, take, drop, take-append-drop}
 use lib.Seq.{sets, length-sets}
 use Rattle.model.specs.Site.{Row, Table, Site, isSite, mostPredicates, mostRows, noTable, tableAt}
 use Rattle.model.specs.Tables.{kindCount}
 use Rattle.model.specs.Store.{tableWords, rowsStart, storedStart, rowsIn, tablesIn, vpWords, vpEntryAt}
 use Rattle.model.proofs.Partition.{proper}
-use Rattle.model.proofs.Blocks.{Block, element-block, drop-block, getD-block}
+use Rattle.model.proofs.Blocks.{Block, block-inside, element-block, drop-block, getD-block}
 use Rattle.model.proofs.StoreLayout.{length-table, entry-and-rows, vpEntry, vp-entries}
 use Rattle.model.proofs.Stores.{rows-back, tables-back}
 use Rattle.tables.specs.SiteWords.{siteIn, ImageHolds, ImageOf}
@@ -39,10 +39,10 @@ image-of site image yes-site long held =
     )
 
 -- words that are set beside the entries and the rows
-pub image-kept : {count : ℕ} {image : List ℕ} → ImageOf count image → (i : ℕ) (vs : List ℕ)
+pub image-unchanged : {count : ℕ} {image : List ℕ} → ImageOf count image → (i : ℕ) (vs : List ℕ)
     → (i + length vs ≤ 3) ⊎ (vpEntryAt count ≤ i) → i + length vs ≤ rowsStart count
     → ImageOf count (sets image i vs) × (siteIn count (sets image i vs) ≡ siteIn count image)
-image-kept {count} {image} o i vs apart before =
+image-unchanged {count} {image} o i vs apart before =
     let site = siteIn count image in
     let few : length site ≡ count = o .predicates in
     let held : ImageHolds site (sets image i vs) = record {
@@ -88,13 +88,6 @@ pub record TableIn (image : List ℕ) (place : ℕ) (rows : List Row) : Type 0 w
   pub count : getD image (place + 1) 0 ≡ length rows
   pub inside : getD image (place + 2) 0 + 2 * getD image (place + 1) 0 ≤ length image
   pub back : rowsIn (getD image (place + 1) 0) (drop (getD image (place + 2) 0) image) ≡ rows
-
--- a block stands inside
-pub block-inside : {l b : List ℕ} {i : ℕ} → Block l i b → i + length b ≤ length l
-block-inside {l} {b} x =
-    let e = ap length (x .whole) ∙ length-append (x .before) (b ++ x .after) in
-    let f = length-append b (x .after) in
-    omega arith
 
 -- an entry, and the rows that it starts
 table-at : {image : List ℕ} {place start : ℕ} (t : Table) → Block image place (vpEntry start t) → Block image start (tableWords (t .rows))
