@@ -1,4 +1,4 @@
--- What is looked up in a store that passed question 10.
+-- What is looked up in validated words.
 use Prim.Native.Nat.{ℕ, suc, _+_, _*_, _≤_}
 use mathlib.Core.Path.{_≡_}
 use mathlib.Core.Bool.{true, cond}

@@ -1,2 +1,2 @@
-// Look-ups in words that passed question 10.
+// Look-ups in validated words.
 pub mod lookup;

@@ -7,7 +7,7 @@ use mathlib.Core.List.{List, [], _∷_, _++_}
 use lib.ListN.{length, drop}
 use Rattle.model.specs.Lists.{sum}
 use Rattle.model.specs.SiteFile.{Declaration}
-use Rattle.model.specs.Store.{vpEntries, vpEntries}
+use Rattle.model.specs.Store.{vpEntries}
 use Rattle.tables.specs.SiteWords.{declaredIn}
 
 pub length-declaredIn : (k : ℕ) (entries : List ℕ) → length (declaredIn k entries) ≡ k

@@ -16,8 +16,7 @@ use Rattle.model.specs.Reader.{refused, repeated}
 use Rattle.model.specs.Site.{mostRows}
 use Rattle.model.specs.SiteFile.{Declaration, declaration}
 use Rattle.model.specs.Store.{rowsStart, vpEntries}
-use Rattle.model.proofs.Growing.{sum-snoc}
-use Rattle.model.proofs.Growing.{above-none, above-snoc}
+use Rattle.model.proofs.Growing.{sum-snoc, above-none, above-snoc}
 use Rattle.tables.specs.NumberAt.{numberAt}
 use Rattle.building.specs.Image.{imageWords}
 use Rattle.tables.specs.declared.number.Number.the-variants.{Value}

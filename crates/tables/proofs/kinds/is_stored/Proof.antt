@@ -5,7 +5,8 @@ use native.Mathlib.Omega.{arith}
 use mathlib.Core.Path.{refl}
 use borrow.Author.Needs.{needs}
 use borrow.Author.Tests.{lt-ltb, le-ltb}
-use Rattle.model.specs.Tables.{isStored}
+use Rattle.model.specs.Site.{mostRows}
+use Rattle.model.specs.Tables.{isStored, mostThreshold}
 use Rattle.tables.proofs.kinds.is_stored.Statement.{statement}
 use Rattle.tables.proofs.kinds.is_stored.Tie as tie
 
@@ -15,7 +16,7 @@ mul-share c = search needs
 mul-limit : tie.Need-mul-limit
 mul-limit c =
     let a = c .args in
-    let product : a .t * a .m ≤ 1000 * 1024 = mul-le-mul (c .pre .0) (c .pre .2) in
+    let product : a .t * a .m ≤ mostThreshold * mostRows = mul-le-mul (c .pre .0) (c .pre .2) in
     omega arith
 
 returns : tie.Need-returns
