@@ -1,6 +1,7 @@
 -- Laws that the proofs of this crate cite.
 pub mod PartialCells
 pub mod JoinFrom
+pub mod ScanJoin
 pub mod PlanJoin
 pub mod FourNumbers
 pub mod JoinWords
