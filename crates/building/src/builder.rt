@@ -12,6 +12,7 @@ use reducing::semi_join_write::write_semi_join;
 use tables::copying::copy_words;
 use tables::kinds::KINDS;
 use tables::kinds::is_stored;
+use tables::layout::nth_semi_join_entry_at;
 use tables::layout::put_semi_join_entry;
 use tables::layout::rows_start;
 use tables::layout::semi_join_entry;
@@ -41,11 +42,12 @@ fn fill_entries(t: usize, count: usize, image: &mut [u32], first: usize) -> usiz
         let o = operands_at(image, count, x);
         let rows = o.rows;
         let left = count_semi_join(image, o);
+        let entry = nth_semi_join_entry_at(count, x);
         if is_stored(t, left, rows) {
-            put_semi_join_entry(image, o.entry, left as u32, here as u32);
+            put_semi_join_entry(image, entry, left as u32, here as u32);
             here += 2 * left;
         } else {
-            put_semi_join_entry(image, o.entry, left as u32, 0);
+            put_semi_join_entry(image, entry, left as u32, 0);
         }
     }
     here
@@ -60,7 +62,7 @@ fn write_stored(t: usize, count: usize, image: &[u32], store: &mut [u32], first:
     let mut next = first;
     for x in 0..count * (count * KINDS) {
         let o = operands_at(image, count, x);
-        let entry = semi_join_entry(image, o.entry);
+        let entry = semi_join_entry(image, nth_semi_join_entry_at(count, x));
         if is_stored(t, entry.rows, o.rows) {
             next = write_semi_join(image, o, store, next);
         }

@@ -1,6 +1,6 @@
 ghost use mathlib.Core.Path.{_≡_};
 ghost use mathlib.Core.List.{[], _∷_};
-ghost use Prim.Native.Nat.{_<_, _≤_, _+_};
+ghost use Prim.Native.Nat.{_<_, _≤_, _+_, _*_};
 ghost use lib.ListN.{length};
 ghost use lib.Seq.{sets};
 ghost use Rattle.model.specs.Site.{mostPredicates};
@@ -22,12 +22,20 @@ pub fn vp_entry_at(i: usize) -> usize
     3 + 3 * i
 }
 
+// The first word of the entry of the x-th semi-join of `count` predicates: for each p, each q, each k, in that nesting.
+pub fn nth_semi_join_entry_at(count: usize, x: usize) -> usize
+    requires { ⌜ (count ≤ mostPredicates) × (x < count * (count * kindCount)) ⌝ }
+    ensures { λ r. ⌜ r ≡ vpEntryAt count + 2 * x ⌝ }
+{
+    vp_entry_at(count) + 2 * x
+}
+
 // The first word of the entry of kind k of the predicate at place i against the one at place j, of `count` predicates.
 pub fn semi_join_entry_at(count: usize, i: usize, j: usize, k: usize) -> usize
     requires { ⌜ (count ≤ mostPredicates) × (i < count) × (j < count) × (k < kindCount) ⌝ }
     ensures { λ r. ⌜ r ≡ semiJoinEntryAt count i j k ⌝ }
 {
-    vp_entry_at(count) + 2 * ((i * count + j) * KINDS + k)
+    nth_semi_join_entry_at(count, (i * count + j) * KINDS + k)
 }
 
 // Where the rows begin: behind the entries of p predicates and of their semi-joins.

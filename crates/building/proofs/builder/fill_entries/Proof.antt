@@ -58,28 +58,25 @@ counted c =
     let same = filled-image (l .before .before .pre .0) (l .loop .inv .4) (l .loop .inv .0) in
     rw (same .1) at (counted-of (same .0) (l .loop .x) (c .before .before .before .before .loop-test .taken) (rw (o .left) at (c .count-semi-join .ensures)) (o .full))
 
--- the entry is that of the semi-join
-entered : (c : tie.After-count-semi-join Inv-loop μ-loop)
-    → let l = c .before .before .before .before .before in
-    c .before .before .operands-at .result .entry ≡ vpEntryAt (l .before .before .args .count) + 2 * l .loop .x
-entered c =
-    let l = c .before .before .before .before .before in
-    let same = filled-image (l .before .before .pre .0) (l .loop .inv .4) (l .loop .inv .0) in
-    rw (same .0 .predicates) at (c .before .before .operands-at .ensures .entry-place)
+nth-semi-join-entry-at-requires : tie.Need-nth-semi-join-entry-at-requires Inv-loop μ-loop
+nth-semi-join-entry-at-requires c κs =
+    let turn = c .before .before .before .before in
+    (few-predicates (turn .before .before .before .pre .0), turn .loop-test .taken)
 
-entry-inside : (c : tie.After-count-semi-join Inv-loop μ-loop) →
-    c .before .before .operands-at .result .entry + 2 ≤ length (c .before .before .before .before .before .loop .image)
+entry-inside : (c : tie.After-nth-semi-join-entry-at Inv-loop μ-loop) →
+    c .nth-semi-join-entry-at .result + 2 ≤ length (c .before .before .before .before .before .before .loop .image)
 entry-inside c =
-    let l = c .before .before .before .before .before in
-    omega (arith, entered c, entries-inside (l .before .before .pre .0), filled-length (l .loop .inv .4))
+    let turn = c .before .before .before .before .before in
+    let l = turn .before in
+    omega (arith, c .nth-semi-join-entry-at .ensures, turn .loop-test .taken, entries-inside (l .before .before .pre .0), filled-length (l .loop .inv .4))
 
 is-stored-requires : tie.Need-is-stored-requires Inv-loop μ-loop
 is-stored-requires c κs =
-    let n = counted c in
-    (c .before .before .before .before .before .before .before .pre .1, n .few, n .full-few)
+    let n = counted (c .before) in
+    (c .before .before .before .before .before .before .before .before .pre .1, n .few, n .full-few)
 
 cast-put-semi-join-entry : tie.Need-cast-put-semi-join-entry Inv-loop μ-loop
-cast-put-semi-join-entry c = omega (arith, counted (c .before .before .before))
+cast-put-semi-join-entry c = omega (arith, counted (c .before .before .before .before))
 
 cast-put-semi-join-entry-2 : tie.Need-cast-put-semi-join-entry-2 Inv-loop μ-loop
 cast-put-semi-join-entry-2 c = search needs
@@ -88,13 +85,13 @@ put-semi-join-entry-requires : tie.Need-put-semi-join-entry-requires Inv-loop μ
 put-semi-join-entry-requires c κs = entry-inside (c .before .before .before)
 
 mul-here : tie.Need-mul-here Inv-loop μ-loop
-mul-here c = omega (arith, counted (c .before .before .before .before .before .before))
+mul-here c = omega (arith, counted (c .before .before .before .before .before .before .before))
 
 add-here : tie.Need-add-here Inv-loop μ-loop
-add-here c = omega (arith, counted (c .before .before .before .before .before .before))
+add-here c = omega (arith, counted (c .before .before .before .before .before .before .before))
 
 cast-put-semi-join-entry-3 : tie.Need-cast-put-semi-join-entry-3 Inv-loop μ-loop
-cast-put-semi-join-entry-3 c = omega (arith, counted (c .before .before .before))
+cast-put-semi-join-entry-3 c = omega (arith, counted (c .before .before .before .before))
 
 put-semi-join-entry-requires-2 : tie.Need-put-semi-join-entry-requires-2 Inv-loop μ-loop
 put-semi-join-entry-requires-2 c κs = entry-inside (c .before .before .before)
@@ -107,13 +104,13 @@ loop-less c = search needs
 
 loop-again : tie.Need-loop-again Inv-loop μ-loop
 loop-again c =
-    let l = c .before .before .before .before .before .before .before in
+    let l = c .before .before .before .before .before .before .before .before in
     let s = l .before .before in
     let inside : l .loop .x < length (semiJoins (siteIn (s .args .count) (s .args .image .now))) =
-    rw (length-all-of (s .pre .0)) (c .before .before .before .before .before .before .loop-test .taken) in
-    let n = counted (c .before .before) in
+    rw (length-all-of (s .pre .0)) (c .before .before .before .before .before .before .before .loop-test .taken) in
+    let n = counted (c .before .before .before) in
     let stored = c .before .is-stored .ensures ∙ counted-stored n (s .args .t) in
-    let place = entered (c .before .before) in (
+    let place = c .before .before .nth-semi-join-entry-at .ensures in (
       omega arith,
       l .loop .inv .1,
       l .loop .inv .2,
@@ -145,6 +142,7 @@ fill-entries-spec =
     loop-holds
     operands-at-requires
     count-semi-join-requires
+    nth-semi-join-entry-at-requires
     is-stored-requires
     cast-put-semi-join-entry
     cast-put-semi-join-entry-2

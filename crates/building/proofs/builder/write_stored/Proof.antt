@@ -1,5 +1,5 @@
 -- The invariant: the rows of the stored tables of the first x semi-joins are written; the numbers are small.
-use Prim.Native.Nat.{_+_, _*_, _-_, _≤_, _<_}
+use Prim.Native.Nat.{_*_, _-_, _≤_, _<_}
 use native.Mathlib.Omega.{arith}
 use mathlib.Core.Path.{_≡_, sym, ap, _∙_}
 use mathlib.Core.Logic.{⊎-elim}
@@ -9,7 +9,7 @@ use lib.Seq.{length-sets}
 use borrow.Author.Needs.{needs}
 use Rattle.model.specs.Site.{mostPredicates}
 use Rattle.model.specs.Tables.{kindCount}
-use Rattle.model.specs.Store.{isStoredTable, semiJoins, vpEntryAt}
+use Rattle.model.specs.Store.{isStoredTable, semiJoins}
 use Rattle.tables.specs.SiteWords.{siteIn, reducedAt}
 use Rattle.tables.proofs.Images.{mostSemiJoins, few-predicates, few-semi-joins, entries-inside}
 use Rattle.tables.proofs.Entries.{Counted, counted-stored, counted-of}
@@ -40,31 +40,31 @@ loop-holds c =
 operands-at-requires : tie.Need-operands-at-requires Inv-loop μ-loop
 operands-at-requires c κs = (c .before .before .before .before .pre .0 .0, c .loop-test .taken)
 
--- the entry is that of the semi-join
-entered : (c : tie.After-operands-at Inv-loop μ-loop) → let l = c .before .before in
-    c .operands-at .result .entry ≡ vpEntryAt (l .before .before .before .args .count) + 2 * l .loop .x
-entered c = rw (c .before .before .before .before .before .pre .0 .0 .predicates) at (c .operands-at .ensures .entry-place)
+nth-semi-join-entry-at-requires : tie.Need-nth-semi-join-entry-at-requires Inv-loop μ-loop
+nth-semi-join-entry-at-requires c κs =
+    let turn = c .before in
+    (few-predicates (turn .before .before .before .before .pre .0 .0), turn .loop-test .taken)
 
 semi-join-entry-requires : tie.Need-semi-join-entry-requires Inv-loop μ-loop
 semi-join-entry-requires c κs =
-    let turn = c .before in
-    omega (arith, entered c, entries-inside (turn .before .before .before .before .pre .0 .0), turn .loop-test .taken)
+    let turn = c .before .before in
+    omega (arith, c .nth-semi-join-entry-at .ensures, entries-inside (turn .before .before .before .before .pre .0 .0), turn .loop-test .taken)
 
 -- what the entry has counted
 counted : (c : tie.After-semi-join-entry Inv-loop μ-loop)
-    → let l = c .before .before .before in
+    → let l = c .before .before .before .before in
     let a = l .before .before .before .args in
-    Counted (siteIn (a .count) (a .image .now)) (l .loop .x) (c .semi-join-entry .result .rows) (c .before .operands-at .result .rows)
+    Counted (siteIn (a .count) (a .image .now)) (l .loop .x) (c .semi-join-entry .result .rows) (c .before .before .operands-at .result .rows)
 counted c =
-    let l = c .before .before .before in
+    let l = c .before .before .before .before in
     let s = l .before .before .before in
-    let taken = c .before .before .loop-test .taken in
-    let count = rw (entered (c .before)) at (c .semi-join-entry .ensures .rows) in
-    counted-of (s .pre .0 .0) (l .loop .x) taken (count ∙ s .pre .0 .2 .counts (l .loop .x) taken) (c .before .operands-at .ensures .full)
+    let taken = c .before .before .before .loop-test .taken in
+    let count = rw (c .before .nth-semi-join-entry-at .ensures) at (c .semi-join-entry .ensures .rows) in
+    counted-of (s .pre .0 .0) (l .loop .x) taken (count ∙ s .pre .0 .2 .counts (l .loop .x) taken) (c .before .before .operands-at .ensures .full)
 
 -- what the call has answered
 stored : (c : tie.After-is-stored Inv-loop μ-loop)
-    → let l = c .before .before .before .before in
+    → let l = c .before .before .before .before .before in
     let a = l .before .before .before .args in
     c .is-stored .result ≡ isStoredTable (a .t) (reducedAt (siteIn (a .count) (a .image .now)) (l .loop .x))
 stored c = c .is-stored .ensures ∙ counted-stored (counted (c .before)) _
@@ -78,12 +78,12 @@ inside c = rw (length-all-of (c .before .before .before .before .pre .0 .0)) (c 
 is-stored-requires : tie.Need-is-stored-requires Inv-loop μ-loop
 is-stored-requires c κs =
     let n = counted c in
-    (c .before .before .before .before .before .before .pre .0 .1, n .few, n .full-few)
+    (c .before .before .before .before .before .before .before .pre .0 .1, n .few, n .full-few)
 
 write-semi-join-requires : tie.Need-write-semi-join-requires Inv-loop μ-loop
 write-semi-join-requires c κs =
-    let o = c .before .before .before .before .operands-at .ensures in
-    let turn = c .before .before .before .before .before in
+    let o = c .before .before .before .before .before .operands-at .ensures in
+    let turn = c .before .before .before .before .before .before in
     let room = turn .before .before .before .before .pre .1 in (
       (o .inside, o .partner-inside, o .own-column, o .partner-column),
       rw (o .left) (stored-room (turn .before .loop .inv .3) (inside turn) (sym (c .before .if1 .taken) ∙ stored (c .before .before)) room),
@@ -97,8 +97,8 @@ loop-less c = search needs
 
 loop-again : tie.Need-loop-again Inv-loop μ-loop
 loop-again c =
-    let o = c .before .before .before .operands-at .ensures in
-    let turn = c .before .before .before .before in
+    let o = c .before .before .before .before .operands-at .ensures in
+    let turn = c .before .before .before .before .before in
     let l = turn .before in
     let more = stored-more (l .loop .inv .3) (inside turn) in (
       omega arith,
@@ -129,6 +129,7 @@ write-stored-spec =
     mul-x-end-2
     loop-holds
     operands-at-requires
+    nth-semi-join-entry-at-requires
     semi-join-entry-requires
     is-stored-requires
     write-semi-join-requires
