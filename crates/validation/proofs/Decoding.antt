@@ -26,8 +26,8 @@ use Rattle.model.proofs.Rows.{rows-words, length-rows}
 use Rattle.tables.proofs.Declared.{length-declaredIn}
 use Rattle.model.proofs.Setting.{part-block}
 use Rattle.tables.proofs.Images.{image-of}
-use Rattle.validation.proofs.Declared.{halves, few-rows}
-use Rattle.validation.specs.Joins.{joinsHold}
+use Rattle.site_validation.proofs.Declared.{halves, few-rows}
+use Rattle.semi_join_validation.specs.Joins.{joinsHold}
 
 -- ---- the declarations of a site
 

@@ -1,9 +1,9 @@
 ghost use mathlib.Core.Path.{_≡_};
 ghost use Rattle.model.specs.Store.{decoded, isStoreOf};
-use crate::entries::Extent;
-use crate::entries::rows_end;
-use crate::entries::tables_proper;
-use crate::semi_joins::semi_joins_hold;
+use semi_join_validation::semi_joins::semi_joins_hold;
+use site_validation::entries::Extent;
+use site_validation::entries::rows_end;
+use site_validation::entries::tables_proper;
 use tables::layout::rows_start;
 use tables::limits::MOST_PREDICATES;
 use tables::limits::MOST_THRESHOLD;

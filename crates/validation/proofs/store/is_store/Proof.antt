@@ -10,7 +10,7 @@ use Rattle.model.specs.Store.{decoded, isStoreOf}
 use Rattle.tables.specs.SiteWords.{entriesProper}
 use Rattle.model.proofs.Booleans.{to-false, not-both}
 use Rattle.validation.proofs.Decoding.{rowsEnd, Parts, parts, stored-start, words-image, rows-good, rows-bad}
-use Rattle.validation.specs.declared.entries.Extent.the-variants.{Ends, Invalid}
+use Rattle.site_validation.specs.declared.entries.Extent.the-variants.{Ends, Invalid}
 use borrow.Author.Needs.{needs}
 use Rattle.validation.proofs.store.is_store.Statement.{statement}
 use Rattle.validation.proofs.store.is_store.Tie as tie

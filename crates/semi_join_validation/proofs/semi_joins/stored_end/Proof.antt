@@ -5,9 +5,9 @@ use mathlib.Core.Logic.{⊎-elim}
 use borrow.Author.Tests.{ltb-false, le-ltb}
 use borrow.Author.Needs.{needs}
 use Rattle.model.proofs.Booleans.{not-both}
-use Rattle.validation.proofs.Join.{stored-wrong, stored-at}
-use Rattle.validation.proofs.semi_joins.stored_end.Statement.{statement}
-use Rattle.validation.proofs.semi_joins.stored_end.Tie as tie
+use Rattle.semi_join_validation.proofs.Join.{stored-wrong, stored-at}
+use Rattle.semi_join_validation.proofs.semi_joins.stored_end.Statement.{statement}
+use Rattle.semi_join_validation.proofs.semi_joins.stored_end.Tie as tie
 
 mul-end : tie.Need-mul-end
 mul-end c = search needs

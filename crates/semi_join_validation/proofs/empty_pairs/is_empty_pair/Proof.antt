@@ -7,9 +7,9 @@ use borrow.Author.Tests.{eq-eqb, ne-eqb, not-true, not-false}
 use Rattle.model.specs.Tables.{kindCount}
 use Rattle.tables.proofs.Images.{few-predicates, entries-inside}
 use Rattle.tables.proofs.Entries.{place-below}
-use Rattle.validation.specs.Joins.{emptyPair}
-use Rattle.validation.proofs.empty_pairs.is_empty_pair.Statement.{statement}
-use Rattle.validation.proofs.empty_pairs.is_empty_pair.Tie as tie
+use Rattle.semi_join_validation.specs.Joins.{emptyPair}
+use Rattle.semi_join_validation.proofs.empty_pairs.is_empty_pair.Statement.{statement}
+use Rattle.semi_join_validation.proofs.empty_pairs.is_empty_pair.Tie as tie
 
 returns : tie.Need-returns
 unfolding emptyPair

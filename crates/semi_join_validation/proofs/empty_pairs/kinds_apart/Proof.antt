@@ -8,9 +8,9 @@ use borrow.Author.Tests.{not-true, not-false}
 use Rattle.model.specs.Tables.{kindCount}
 use Rattle.model.proofs.Booleans.{not-both, to-false}
 use Rattle.statistics.proofs.ComparedColumns.{number-of}
-use Rattle.validation.proofs.EmptyPairs.{kindApart, kinds-apart, kind-apart}
-use Rattle.validation.proofs.empty_pairs.kinds_apart.Statement.{statement}
-use Rattle.validation.proofs.empty_pairs.kinds_apart.Tie as tie
+use Rattle.semi_join_validation.proofs.EmptyPairs.{kindApart, kinds-apart, kind-apart}
+use Rattle.semi_join_validation.proofs.empty_pairs.kinds_apart.Statement.{statement}
+use Rattle.semi_join_validation.proofs.empty_pairs.kinds_apart.Tie as tie
 
 abbrev Inv-loop : tie.InvT-loop
 Inv-loop ranges p q k₀ k = (j : ℕ) → j < k → kindApart ranges p q j ≡ true

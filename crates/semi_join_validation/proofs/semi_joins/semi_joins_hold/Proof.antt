@@ -8,8 +8,8 @@ use Rattle.model.specs.Store.{rowsStart}
 use Rattle.model.proofs.Partition.{proper}
 use Rattle.tables.specs.SiteWords.{siteIn}
 use Rattle.tables.proofs.Images.{few-predicates, few-semi-joins}
-use Rattle.validation.proofs.semi_joins.semi_joins_hold.Statement.{statement}
-use Rattle.validation.proofs.semi_joins.semi_joins_hold.Tie as tie
+use Rattle.semi_join_validation.proofs.semi_joins.semi_joins_hold.Statement.{statement}
+use Rattle.semi_join_validation.proofs.semi_joins.semi_joins_hold.Tie as tie
 
 -- the rows end behind as many words as are lent to a small site
 few-words : (s : tie.Start) {start : ℕ} → start ≡ rowsStart (s .args .count) → s .args .first ≤ start + 2 * 64

@@ -6,7 +6,7 @@ ghost use Rattle.model.specs.Lists.{all};
 ghost use Rattle.model.specs.Site.{mostPredicates, rowsProper};
 ghost use Rattle.model.specs.Store.{rowsStart};
 ghost use Rattle.tables.specs.SiteWords.{declaredRows, entriesProper, siteIn};
-ghost use Rattle.validation.specs.declared.entries.Extent.the-variants.{Ends, Invalid};
+ghost use Rattle.site_validation.specs.declared.entries.Extent.the-variants.{Ends, Invalid};
 use tables::layout::rows_start;
 use tables::layout::table_entry;
 use tables::limits::MOST_ROWS;

@@ -12,9 +12,9 @@ use Rattle.model.specs.SiteFile.{declaredProper}
 use Rattle.model.specs.Store.{rowsStart, vpEntryAt}
 use Rattle.model.proofs.Booleans.{to-false}
 use Rattle.tables.specs.SiteWords.{declaredIn, declaredRows}
-use Rattle.validation.proofs.Declared.{EntriesStand, not-term, not-ascending, too-many-rows, start-proper, entry-passes, stands-more, rows-more, all-passed}
-use Rattle.validation.proofs.entries.rows_end.Statement.{statement}
-use Rattle.validation.proofs.entries.rows_end.Tie as tie
+use Rattle.site_validation.proofs.Declared.{EntriesStand, not-term, not-ascending, too-many-rows, start-proper, entry-passes, stands-more, rows-more, all-passed}
+use Rattle.site_validation.proofs.entries.rows_end.Statement.{statement}
+use Rattle.site_validation.proofs.entries.rows_end.Tie as tie
 
 abbrev Inv-loop : tie.InvT-loop
 Inv-loop w count here₀ total₀ last₀ i₀ here total last i =

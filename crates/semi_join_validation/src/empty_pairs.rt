@@ -2,7 +2,7 @@ ghost use mathlib.Core.Path.{_≡_};
 ghost use Prim.Native.Nat.{_<_};
 ghost use Rattle.model.specs.Site.{mostPredicates};
 ghost use Rattle.tables.specs.SiteWords.{ImageOf};
-ghost use Rattle.validation.specs.Joins.{kindsApart, emptyPair};
+ghost use Rattle.semi_join_validation.specs.Joins.{kindsApart, emptyPair};
 use statistics::ranges::columns_apart;
 use statistics::ranges::range_at;
 use tables::bounds::all_at_most;

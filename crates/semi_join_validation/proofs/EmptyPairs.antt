@@ -22,9 +22,9 @@ use Rattle.tables.proofs.Entries.{place-below, operands-of}
 use Rattle.statistics.specs.Ranges.{rangeAt, AllMeasured, apart}
 use Rattle.statistics.proofs.ColumnRanges.{none-left}
 use Rattle.statistics.proofs.ComparedColumns.{number-small, column-of-number}
-use Rattle.validation.specs.Joins.{kindsApart, emptyPair}
-use Rattle.validation.proofs.Join.{ends-not-stored}
-use Rattle.validation.proofs.Joined.{Joined, joined-more}
+use Rattle.semi_join_validation.specs.Joins.{kindsApart, emptyPair}
+use Rattle.semi_join_validation.proofs.Join.{ends-not-stored}
+use Rattle.semi_join_validation.proofs.Joined.{Joined, joined-more}
 
 -- no row is left, and the entry at a place says so
 pub record EmptyJoin (words : List ℕ) (x : Reduced) (entry : ℕ) : Type 0 where

@@ -15,7 +15,7 @@ use Rattle.model.proofs.Growing.{longer, passed-inside, all-grows}
 use Rattle.tables.specs.declared.layout.TableEntry.{TableEntry}
 use Rattle.tables.specs.Entries.{TableEntryAt}
 use Rattle.tables.specs.SiteWords.{declaredRows, entriesProper, siteIn}
-use Rattle.validation.proofs.Declared.{next-entry, rows-more, count-split, rows-among, few-rows, start-proper}
+use Rattle.site_validation.proofs.Declared.{next-entry, rows-more, count-split, rows-among, few-rows, start-proper}
 
 -- table i, of entries from p on and rows from q on
 abbrev tableAt : List ℕ → ℕ → ℕ → ℕ → Table

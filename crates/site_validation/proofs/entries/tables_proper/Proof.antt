@@ -9,9 +9,9 @@ use borrow.Author.Tests.{not-true, not-false}
 use Rattle.model.specs.Lists.{all}
 use Rattle.model.specs.Site.{rowsProper}
 use Rattle.model.specs.Store.{rowsStart, tablesIn}
-use Rattle.validation.proofs.Tables.{rows-end-inside, entry-rows, table-passes, table-fails}
-use Rattle.validation.proofs.entries.tables_proper.Statement.{statement}
-use Rattle.validation.proofs.entries.tables_proper.Tie as tie
+use Rattle.site_validation.proofs.Tables.{rows-end-inside, entry-rows, table-passes, table-fails}
+use Rattle.site_validation.proofs.entries.tables_proper.Statement.{statement}
+use Rattle.site_validation.proofs.entries.tables_proper.Tie as tie
 
 abbrev Inv-loop : tie.InvT-loop
 Inv-loop w count i₀ i = (i ≤ count) × (all (λ t. rowsProper (t .rows)) (tablesIn i (drop 3 w) (drop (rowsStart count) w)) ≡ true)

@@ -21,10 +21,10 @@ use Rattle.tables.specs.SiteWords.{siteIn, ImageOf, noReduced, reducedAt}
 use Rattle.tables.proofs.Reduced.{entries-more, stored-words-more, take-more, length-all-of}
 use Rattle.model.proofs.Setting.{part-block}
 use Rattle.tables.proofs.Images.{entries-inside}
-use Rattle.validation.proofs.Join.{Held, held, holds}
-use Rattle.validation.specs.Joins.{joinHolds, joinsHold}
-use Rattle.validation.specs.declared.entries.Extent.{Extent}
-use Rattle.validation.specs.declared.entries.Extent.the-variants.{Ends, Invalid}
+use Rattle.semi_join_validation.proofs.Join.{Held, held, holds}
+use Rattle.semi_join_validation.specs.Joins.{joinHolds, joinsHold}
+use Rattle.site_validation.specs.declared.entries.Extent.{Extent}
+use Rattle.site_validation.specs.declared.entries.Extent.the-variants.{Ends, Invalid}
 
 -- ---- words one behind the other
 

@@ -9,11 +9,11 @@ use Rattle.model.specs.Store.{semiJoinPlace}
 use Rattle.model.specs.Tables.{kindCount}
 use Rattle.tables.proofs.Images.{few-predicates}
 use Rattle.tables.proofs.Entries.{place-below}
-use Rattle.validation.proofs.Joined.{Joined, joined-none, joined-more, one-fails, joined-all}
-use Rattle.validation.proofs.EmptyPairs.{empty-pair, pair-joined}
-use Rattle.validation.proofs.Turns.{Turn, first-turn, first-place, last-turn, last-kind, Onward, next-partner, next-own}
-use Rattle.validation.proofs.semi_joins.each_semi_join_holds.Statement.{statement}
-use Rattle.validation.proofs.semi_joins.each_semi_join_holds.Tie as tie
+use Rattle.semi_join_validation.proofs.Joined.{Joined, joined-none, joined-more, one-fails, joined-all}
+use Rattle.semi_join_validation.proofs.EmptyPairs.{empty-pair, pair-joined}
+use Rattle.semi_join_validation.proofs.Turns.{Turn, first-turn, first-place, last-turn, last-kind, Onward, next-partner, next-own}
+use Rattle.semi_join_validation.proofs.semi_joins.each_semi_join_holds.Statement.{statement}
+use Rattle.semi_join_validation.proofs.semi_joins.each_semi_join_holds.Tie as tie
 
 abbrev Inv-loop : tie.InvT-loop
 Inv-loop t w objects ranges count first used rows here₀ p₀ q₀ k₀ here p q k = Turn count p q k × Joined t count w used here (semiJoinPlace count p q k)

@@ -17,11 +17,11 @@ use Rattle.tables.proofs.Images.{few-predicates, entries-inside}
 use Rattle.tables.proofs.Entries.{place-below, counted-of, left-fewer}
 use Rattle.statistics.specs.IndexedTables.{SearchableBy}
 use Rattle.statistics.specs.Ranges.{rangeAt, apart}
-use Rattle.validation.proofs.EmptyPairs.{apart-none, none-stored}
-use Rattle.validation.proofs.IndexedOperands.{rows-searchable, own-range, partner-range, rows-by-column, partners-by-column}
-use Rattle.validation.proofs.Join.{stored-same, ends-wrong, ends-stored, not-stored, ends-not-stored}
-use Rattle.validation.proofs.semi_joins.semi_join_end.Statement.{statement}
-use Rattle.validation.proofs.semi_joins.semi_join_end.Tie as tie
+use Rattle.semi_join_validation.proofs.EmptyPairs.{apart-none, none-stored}
+use Rattle.semi_join_validation.proofs.IndexedOperands.{rows-searchable, own-range, partner-range, rows-by-column, partners-by-column}
+use Rattle.semi_join_validation.proofs.Join.{stored-same, ends-wrong, ends-stored, not-stored, ends-not-stored}
+use Rattle.semi_join_validation.proofs.semi_joins.semi_join_end.Statement.{statement}
+use Rattle.semi_join_validation.proofs.semi_joins.semi_join_end.Tie as tie
 
 -- the place of the semi-join, its entry, and the semi-join
 abbrev place : tie.Start → ℕ

@@ -1,0 +1,6 @@
+-- The laws the proofs of this crate rest on.
+pub mod Join
+pub mod Joined
+pub mod Turns
+pub mod EmptyPairs
+pub mod IndexedOperands

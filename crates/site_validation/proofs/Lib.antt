@@ -1,0 +1,3 @@
+-- The laws the proofs of this crate rest on.
+pub mod Declared
+pub mod Tables
