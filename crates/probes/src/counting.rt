@@ -27,17 +27,17 @@ fn count_common(
     requires { ⌜ SortedRun (now words) base stride n × ContainsAll (hasWord (now words) base stride n) (now slots) ⌝ }
     ensures { λ r. ⌜ r ≡ passing (now (own .entry)) from step m (hasWord (now (words .entry)) base stride n) ⌝ }
 {
-    let mut kept: usize = 0;
+    let mut common: usize = 0;
     let mut place: usize = 0;
     for i in 0..m {
         let value = own[from + step * i];
         let met = walk_to(words, base, stride, n, slots, place, value);
         place = met.place;
         if met.found {
-            kept += 1;
+            common += 1;
         }
     }
-    kept
+    common
 }
 
 // How many words of a semi-join's own column are values of its partners' column, which is walked in the rows or in the objects' copy.

@@ -136,14 +136,14 @@ module _ (words : List ℕ) (start : ℕ) where
   pub no-values : RangeOf (hasValue words start 0 1) 1 0 0
   no-values = record { between = λ x e. absurd (false≢true e); attained = λ l. absurd (omega arith); gapless = λ e. absurd (omega arith) }
 
-  pub one-more-value : (i column : ℕ) → column < 2 → start + 2 * (i + 1) ≤ length words → (x : ℕ)
+  pub value-more : (i column : ℕ) → column < 2 → start + 2 * (i + 1) ≤ length words → (x : ℕ)
       → hasValue words start (i + 1) column x ≡ (hasValue words start i column x || eqb x (getD words (start + 2 * i + column) 0))
-  one-more-value i column c h x = rw (rows-at words start i 0 h, any-append, or-false, at-column words start i column c) refl
+  value-more i column c h x = rw (rows-at words start i 0 h, any-append, or-false, at-column words start i column c) refl
 
   pub one-value : start + 2 ≤ length words → RangeOf (hasValue words start 1 1) (getD words (start + 1) 0) (getD words (start + 1) 0) 0
   one-value h =
       let first : getD words (start + 2 * 0 + 1) 0 ≡ getD words (start + 1) 0 = ap (λ (k : ℕ). getD words k 0) (omega arith) in
-      range-one (getD words (start + 1) 0) (λ x. one-more-value 0 1 (omega arith) (omega arith) x ∙ ap (eqb x) first)
+      range-one (getD words (start + 1) 0) (λ x. value-more 0 1 (omega arith) (omega arith) x ∙ ap (eqb x) first)
 
 -- where the words that ascend and are the values have no gaps, the range has none
 pub range-whole : {p : ℕ → Bool} {lowest highest : ℕ} (before whole : ℕ) (copy : List ℕ) (n : ℕ)
@@ -248,9 +248,9 @@ module _ (lowest highest whole : ℕ) (ranges : List ℕ) (place : ℕ) (room : 
       ) r
 
   -- and others stand as they stood
-  pub range-kept : {p : ℕ → Bool} (other : ℕ) → (other + 3 ≤ place) ⊎ (place + 3 ≤ other) → RangeOf p (getD ranges other 0) (getD ranges (other + 1) 0) (getD ranges (other + 2) 0)
+  pub range-elsewhere : {p : ℕ → Bool} (other : ℕ) → (other + 3 ≤ place) ⊎ (place + 3 ≤ other) → RangeOf p (getD ranges other 0) (getD ranges (other + 1) 0) (getD ranges (other + 2) 0)
       → let now = putRange ranges place lowest highest whole in RangeOf p (getD now other 0) (getD now (other + 1) 0) (getD now (other + 2) 0)
-  range-kept other o r =
+  range-elsewhere other o r =
       let apart : (k : ℕ) → k < 3 → (other + k < place) ⊎ (place + 3 ≤ other + k) = λ k h. ⊎-elim (λ l. inl (omega arith)) (λ l. inr (omega arith)) o in
       rw (put-other other (⊎-elim (λ l. inl (omega arith)) (λ l. inr (omega arith)) o), put-other (other + 1) (apart 1 (omega arith)), put-other (other + 2) (apart 2 (omega arith))) r
 
@@ -277,12 +277,12 @@ table-measured words ranges i {low} {high} {whole} {low'} {high'} {whole'} r ent
     earlier : (j : ℕ) → j < i → (column : ℕ) → column < 2
         → ColumnRange words (getD words (vpEntryAt j + 2) 0) (getD words (vpEntryAt j + 1) 0) column now (rangeAt j column)
     earlier j h column l =
-        range-kept low' high' whole' half (rangeAt i 1) fits-too (rangeAt j column) (inl (omega arith))
-        (range-kept low high whole ranges (rangeAt i 0) fits (rangeAt j column) (inl (omega arith)) (before j h column l))
+        range-elsewhere low' high' whole' half (rangeAt i 1) fits-too (rangeAt j column) (inl (omega arith))
+        (range-elsewhere low high whole ranges (rangeAt i 0) fits (rangeAt j column) (inl (omega arith)) (before j h column l))
 
     own : (column : ℕ) → column < 2 → ColumnRange words (getD words (vpEntryAt i + 2) 0) (getD words (vpEntryAt i + 1) 0) column now (rangeAt i column)
     own zero l =
-        range-kept low' high' whole' half (rangeAt i 1) fits-too (rangeAt i 0) (inl (omega arith)) (range-put low high whole ranges (rangeAt i 0) fits (rw (entry .start, entry .rows) at subjects))
+        range-elsewhere low' high' whole' half (rangeAt i 1) fits-too (rangeAt i 0) (inl (omega arith)) (range-put low high whole ranges (rangeAt i 0) fits (rw (entry .start, entry .rows) at subjects))
     own (suc zero) l = range-put low' high' whole' half (rangeAt i 1) fits-too (rw (entry .start, entry .rows) at objects)
     own (suc (suc column)) l = absurd (omega arith)
 
@@ -314,9 +314,9 @@ module _ (ranges : List ℕ) (i whole : ℕ) where
       here : getD again (rangeAt i 1 + 2) 0 ≡ whole
       here = getD-set-same ranges (rangeAt i 1 + 2) whole 0 (omega arith)
 
-      kept : (column : ℕ) → column < 2 → (rangeAt j column ≡ rangeAt i 1 → ⊥)
+      elsewhere : (column : ℕ) → column < 2 → (rangeAt j column ≡ rangeAt i 1 → ⊥)
           → ColumnRange words (getD words (vpEntryAt j + 2) 0) (getD words (vpEntryAt j + 1) 0) column again (rangeAt j column)
-      kept column l other =
+      elsewhere column l other =
           rw (
             again-other (rangeAt j column) (λ e. omega arith),
             again-other (rangeAt j column + 1) (λ e. omega arith),
@@ -325,8 +325,8 @@ module _ (ranges : List ℕ) (i whole : ℕ) where
 
       go : (b : Bool) → eqb j i ≡ b → (column : ℕ) → column < 2
           → ColumnRange words (getD words (vpEntryAt j + 2) 0) (getD words (vpEntryAt j + 1) 0) column again (rangeAt j column)
-      go b e zero l = kept 0 l (λ d. omega arith)
-      go false e (suc zero) l = kept 1 l (λ d. eqb-false j i e (omega arith))
+      go b e zero l = elsewhere 0 l (λ d. omega arith)
+      go false e (suc zero) l = elsewhere 1 l (λ d. eqb-false j i e (omega arith))
       go true e (suc zero) l =
           let same : j ≡ i = eqb-true j i e in
           rw (same, again-other (rangeAt i 1) (λ d. omega arith), again-other (rangeAt i 1 + 1) (λ d. omega arith), here) own

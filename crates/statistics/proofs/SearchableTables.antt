@@ -187,9 +187,9 @@ module _ {count : ℕ} {w : List ℕ} (o : ImageOf count w) where
     inside : partAt i ≤ length objects
     inside = omega (arith, part-fits i h)
 
-    earlier-kept : (j : ℕ) → j < i → ObjectsSorted w objects (rowsStart count) (startAt j) (rowsAt j)
+    earlier-sorted : (j : ℕ) → j < i → ObjectsSorted w objects (rowsStart count) (startAt j) (rowsAt j)
         → ObjectsSorted w (putBack objects (partAt i) copy rest) (rowsStart count) (startAt j) (rowsAt j)
-    earlier-kept j l s =
+    earlier-sorted j l s =
         let now = putBack objects (partAt i) copy rest in
         let same : (k : ℕ) → k < rowsAt j → wordAt now (partAt j) 1 k ≡ wordAt objects (partAt j) 1 k =
         λ k m. word-before objects copy rest (partAt i) inside (partAt j + 1 * k) (omega (arith, parts-apart j i l h)) in
@@ -198,8 +198,8 @@ module _ {count : ℕ} {w : List ℕ} (o : ImageOf count w) where
           same-objects = values-moved objects now (partAt j) (partAt j) (rowsAt j) same (s .same-objects);
         }
 
-    one-put : CopyOf w (startAt i) (rowsAt i) copy → ObjectsSorted w (putBack objects (partAt i) copy rest) (rowsStart count) (startAt i) (rowsAt i)
-    one-put c =
+    table-sorted : CopyOf w (startAt i) (rowsAt i) copy → ObjectsSorted w (putBack objects (partAt i) copy rest) (rowsStart count) (startAt i) (rowsAt i)
+    table-sorted c =
         let now = putBack objects (partAt i) copy rest in
         let same : (k : ℕ) → k < rowsAt i → wordAt now (partAt i) 1 k ≡ wordAt copy 0 1 k =
         λ k m. word-there objects copy rest (partAt i) inside k (omega arith) in
@@ -216,5 +216,5 @@ module _ {count : ℕ} {w : List ℕ} (o : ImageOf count w) where
         below-more
         (λ j. (p : ℕ) → p < count → (column : ℕ) → column < 2 → areCompared column 1 ≡ true → apart (set ranges (rangeAt i 1 + 2) whole) (rangeAt p column) (rangeAt j 1) ≡ false
         → ObjectsSorted w (putBack objects (partAt i) copy rest) (rowsStart count) (startAt j) (rowsAt j)) i
-        (λ j l p m column n compared e. earlier-kept j l (s j l p m column n compared (sym (apart-again ranges i whole p column j) ∙ e)))
-        (λ p m column n compared e. one-put (c p m column n compared (sym (apart-again ranges i whole p column i) ∙ e)))
+        (λ j l p m column n compared e. earlier-sorted j l (s j l p m column n compared (sym (apart-again ranges i whole p column j) ∙ e)))
+        (λ p m column n compared e. table-sorted (c p m column n compared (sym (apart-again ranges i whole p column i) ∙ e)))

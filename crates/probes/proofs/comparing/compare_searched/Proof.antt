@@ -99,8 +99,8 @@ loop-again c =
       search needs,
       ⊎-elim
           (λ w.
-          let one-more = next-compared _ _ _ (start .pre .0 .1) before _ (sym (w .1 .ensures) ∙ not-false _ (w .2 .left)) in
-          rw (w .3, row-left _ _ _ _ _ _ _ (answer (c .before) ∙ w .0 .taken) (omega arith)) one-more)
+          let more = next-compared _ _ _ (start .pre .0 .1) before _ (sym (w .1 .ensures) ∙ not-false _ (w .2 .left)) in
+          rw (w .3, row-left _ _ _ _ _ _ _ (answer (c .before) ∙ w .0 .taken) (omega arith)) more)
           (λ w. rw (w .1, row-not-left _ _ _ _ _ _ _ (omega arith) (answer (c .before) ∙ w .0 .left)) before)
           (c .if1 .came),
     )

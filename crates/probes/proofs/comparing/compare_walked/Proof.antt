@@ -39,8 +39,8 @@ answer c = sym (c .walk-to .ensures .0)
 at-hand : (c : tie.Then1 Inv-loop μ-loop) →
     let outer = c .before .before .before .before in
     let a = outer .before .before .before .before .args in
-    let kept : ℕ → List Row = λ i. filteredRows (a .w .now) (a .start) i (isAmong (a .words .now) (a .base) (a .stride) (a .n)) in
-    Block (kept (a .m)) (length (kept (outer .loop .i))) (rowAt (a .w .now) (a .start) (outer .loop .i) ∷ [])
+    let among : ℕ → List Row = λ i. filteredRows (a .w .now) (a .start) i (isAmong (a .words .now) (a .base) (a .stride) (a .n)) in
+    Block (among (a .m)) (length (among (outer .loop .i))) (rowAt (a .w .now) (a .start) (outer .loop .i) ∷ [])
 at-hand c =
     let outer = c .before .before .before .before in
     let a = outer .before .before .before .before .args in
@@ -105,8 +105,8 @@ loop-again c =
       met .1 .within,
       ⊎-elim
           (λ w.
-          let one-more = next-compared _ _ _ (s .pre .0 .1) before (a .start + 2 * outer .loop .i) (sym (w .1 .ensures) ∙ not-false _ (w .2 .left)) in
-          rw (w .3, row-filtered-in (a .w .now) (a .start) (outer .loop .i) among (answer (c .before) ∙ w .0 .taken) (omega arith)) one-more)
+          let more = next-compared _ _ _ (s .pre .0 .1) before (a .start + 2 * outer .loop .i) (sym (w .1 .ensures) ∙ not-false _ (w .2 .left)) in
+          rw (w .3, row-filtered-in (a .w .now) (a .start) (outer .loop .i) among (answer (c .before) ∙ w .0 .taken) (omega arith)) more)
           (λ w. rw (w .1, row-filtered-out (a .w .now) (a .start) (outer .loop .i) among (omega arith) (answer (c .before) ∙ w .0 .left)) before)
           (c .if1 .came),
       λ j l h after in-rows. omega (arith, met .1 .lower j h, s .pre .0 .0 .ascending (outer .loop .i) l (omega arith) in-rows),

@@ -1,4 +1,4 @@
--- The invariant: `kept` counts those of the first i own words that are among the others, and the words before `place` are below the own words that follow.
+-- The invariant: `common` counts those of the first i own words that are among the others, and the words before `place` are below the own words that follow.
 use Prim.Native.Nat.{ℕ, _+_, _*_, _-_, _≤_, _<_}
 use native.Mathlib.Omega.{arith}
 use mathlib.Core.Path.{_≡_, refl, sym, ap, _∙_}
@@ -13,13 +13,13 @@ use Rattle.probes.proofs.counting.count_common.Statement.{statement}
 use Rattle.probes.proofs.counting.count_common.Tie as tie
 
 abbrev Inv-loop : tie.InvT-loop
-Inv-loop own from step m words base stride n slots kept₀ place₀ i₀ kept place i =
-    (i ≤ m) × (kept ≤ i) × (place ≤ n)
-    × (kept ≡ passing own from step i (hasWord words base stride n))
+Inv-loop own from step m words base stride n slots common₀ place₀ i₀ common place i =
+    (i ≤ m) × (common ≤ i) × (place ≤ n)
+    × (common ≡ passing own from step i (hasWord words base stride n))
     × ((j k : ℕ) → j < place → i ≤ k → k < m → wordAt words base stride j < wordAt own from step k)
 
 abbrev μ-loop : tie.MeasureT-loop
-μ-loop own from step m words base stride n slots kept₀ place₀ i₀ kept place i = m - i
+μ-loop own from step m words base stride n slots common₀ place₀ i₀ common place i = m - i
 
 loop-holds : tie.Need-loop-holds Inv-loop μ-loop
 unfolding passing
@@ -47,8 +47,8 @@ walk-to-requires c κs =
     let inv = c .before .before .loop .inv in
     (s .pre .1, record { within = inv .2; lower = λ j h. inv .4 j _ h (omega arith) (omega arith) })
 
-add-kept : tie.Need-add-kept Inv-loop μ-loop
-add-kept c = omega arith
+add-common : tie.Need-add-common Inv-loop μ-loop
+add-common c = omega arith
 
 add-i : tie.Need-add-i Inv-loop μ-loop
 add-i c = omega arith
@@ -91,7 +91,7 @@ count-common-spec =
     mul-value-2
     shared-slice-read-value
     walk-to-requires
-    add-kept
+    add-common
     add-i
     loop-less
     loop-again

@@ -5,7 +5,7 @@ use mathlib.Core.Path.{_≡_, _∙_}
 use mathlib.Core.Bool.{false≢true}
 use lib.ListN.{length, getD, length-set}
 use Rattle.statistics.specs.Ranges.{hasValue}
-use Rattle.statistics.proofs.ColumnRanges.{one-more-value}
+use Rattle.statistics.proofs.ColumnRanges.{value-more}
 use Rattle.probes.specs.OneHashFilter.{slotCount, ContainsAll}
 use Rattle.probes.proofs.Containing.{contains-more}
 use Rattle.probes.proofs.one_hash_filter.insert_values.Statement.{statement}
@@ -54,7 +54,7 @@ loop-again c =
     let value = getD (a .w .now) (a .start + 2 * l .i + a .column) 0 in (
       omega arith,
       length-set (l .slots) (value % slotCount) 1 ∙ l .inv .1,
-      contains-more (l .slots) (l .inv .1) value (one-more-value (a .w .now) (a .start) (l .i) (a .column) (c .before .before .before .pre .1) (omega arith)) (l .inv .2),
+      contains-more (l .slots) (l .inv .1) value (value-more (a .w .now) (a .start) (l .i) (a .column) (c .before .before .before .pre .1) (omega arith)) (l .inv .2),
     )
 
 returns : tie.Need-returns Inv-loop μ-loop

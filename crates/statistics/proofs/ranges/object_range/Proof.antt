@@ -5,7 +5,7 @@ use mathlib.Core.Path.{_≡_, sym, subst}
 use mathlib.Core.Logic.{_⊎_, ⊎-elim, inl, inr}
 use lib.ListN.{getD}
 use Rattle.statistics.specs.Ranges.{RangeOf, hasValue}
-use Rattle.statistics.proofs.ColumnRanges.{range-more, no-values, one-more-value, one-value}
+use Rattle.statistics.proofs.ColumnRanges.{range-more, no-values, value-more, one-value}
 use Rattle.statistics.proofs.ranges.object_range.Statement.{statement}
 use Rattle.statistics.proofs.ranges.object_range.Tie as tie
 
@@ -65,7 +65,7 @@ loop-again c =
       omega arith,
       omega arith,
       omega (arith, low .0, high .0),
-      range-more value (one-more-value (s .args .w .now) (s .args .start) (l .loop .i) 1 (omega arith) (omega arith)) (l .loop .inv .2) (low .0) (low .1) (low .2) (high .0) (high .1) (high .2) (l .loop .inv .3),
+      range-more value (value-more (s .args .w .now) (s .args .start) (l .loop .i) 1 (omega arith) (omega arith)) (l .loop .inv .2) (low .0) (low .1) (low .2) (high .0) (high .1) (high .2) (l .loop .inv .3),
     )
 
 returns-2 : tie.Need-returns-2 Inv-loop μ-loop
