@@ -167,7 +167,7 @@ module _ (t : ℕ) (site : Site) where
   unfolding layout
   vp-entries-block = record { before = first; after = _; whole = refl; length-before = refl }
 
-  semi-join-entries-block : Block words (vpEntryAt (length site)) entriesOfSemiJoins
+  pub semi-join-entries-block : Block words (vpEntryAt (length site)) entriesOfSemiJoins
   unfolding layout
   semi-join-entries-block = record {
     before = first ++ entriesOfVp;
@@ -180,7 +180,7 @@ module _ (t : ℕ) (site : Site) where
   unfolding layout
   vp-words-block = record { before = front; after = storedWords t (semiJoins site); whole = simp append-assoc; length-before = length-front }
 
-  stored-words-block : Block words (storedStart site) (storedWords t (semiJoins site))
+  pub stored-words-block : Block words (storedStart site) (storedWords t (semiJoins site))
   unfolding layout
   stored-words-block = record { before = front ++ vpWords site; after = []; whole = simp (append-assoc, append-nil); length-before = length-before-stored }
 

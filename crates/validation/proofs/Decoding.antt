@@ -4,7 +4,7 @@ use native.Mathlib.Nat.{min-eq-left}
 use native.Mathlib.Omega.{arith}
 use mathlib.Core.Path.{_≡_, refl, sym, ap, _∙_, subst}
 use mathlib.Core.Bool.{Bool, true, false, _&&_}
-use mathlib.Core.List.{List, [], _∷_, _++_, append-assoc}
+use mathlib.Core.List.{List, [], _∷_, _++_}
 use lib.ListN.{length, getD, take, drop, length-append, length-drop, length-map}
 use lib.Seq.{length-take-le, drop-cons, take-at, take-add}
 use lib.Dec.{leb}
@@ -18,7 +18,7 @@ use Rattle.model.proofs.Booleans.{and-cases, and-make, bool-ext}
 use Rattle.model.proofs.Partition.{proper}
 use Rattle.model.proofs.SiteFile.{declared-site, sum-map}
 use Rattle.model.proofs.Blocks.{Block, block-at, longer-block, drop-block, take-block, joined-block}
-use Rattle.model.proofs.StoreLayout.{length-all, length-vp-entries, length-semi-join-entries, front, length-before-stored, length-layout, layout-parts, vp-entries-block}
+use Rattle.model.proofs.StoreLayout.{length-all, length-vp-entries, length-semi-join-entries, front, length-before-stored, length-layout, layout-parts, vp-entries-block, semi-join-entries-block, stored-words-block}
 use Rattle.model.proofs.Stores.{same-words, words-same}
 use Rattle.model.proofs.Decoder.{siteOf, thresholdOf, store-holds, holds-store, store-whole, store-predicates, store-used, store-inside}
 use Rattle.tables.specs.SiteWords.{declaredIn, declaredRows, entriesProper, siteIn, ImageHolds, ImageOf}
@@ -174,23 +174,10 @@ module _ (w : List ℕ) (t : ℕ) (site : Site) where
       × (take (wordsUsed w - storedStart site) (drop (storedStart site) w) ≡ stored)
 
   joins-in : Holds w t site → JoinsIn
-  unfolding layout
   joins-in h =
-      let rest = drop (wordsUsed w) w in
-      let vp = length-vp-entries (rowsStart (length site)) site in
       let long = store-used h ∙ length-layout t site in
-      let entries : Block w (vpEntryAt (length site)) joins = record {
-        before = length site ∷ t ∷ (storedStart site + length stored) ∷ vpEntries (rowsStart (length site)) (declarations site);
-        after = (vpWords site ++ stored) ++ rest;
-        whole = store-whole h ∙ simp append-assoc;
-        length-before = omega arith;
-      } in
-      let rows : Block w (storedStart site) stored = record {
-        before = front t site ++ vpWords site;
-        after = rest;
-        whole = store-whole h ∙ simp append-assoc;
-        length-before = length-before-stored t site;
-      } in
+      let entries : Block w (vpEntryAt (length site)) joins = rw (store-whole h) (longer-block (semi-join-entries-block t site) (drop (wordsUsed w) w)) in
+      let rows : Block w (storedStart site) stored = rw (store-whole h) (longer-block (stored-words-block t site) (drop (wordsUsed w) w)) in
       let n : 2 * (length site * (length site * kindCount)) ≡ length joins = sym (length-semi-join-entries t (storedStart site) site) in
       let m : wordsUsed w - storedStart site ≡ length stored = omega arith in (
         ap (λ (k : ℕ). take k (drop (vpEntryAt (length site)) w)) n ∙ take-block entries,
