@@ -1,16 +1,25 @@
 -- The entries and the stored rows of semi-joins, as words hold them.
-use Prim.Native.Nat.{ℕ, _+_, _*_, _-_}
+use Prim.Native.Nat.{ℕ, _+_, _*_, _-_, _≤_}
+use mathlib.Core.Path.{_≡_}
 use mathlib.Core.Bool.{Bool, cond, _&&_}
 use mathlib.Core.List.{List}
 use lib.ListN.{length, getD, take, drop}
 use lib.Dec.{eqb, leb}
 use Rattle.model.specs.Lists.{all, sameWords}
 use Rattle.model.specs.Site.{Row}
-use Rattle.model.specs.Tables.{kinds, kindCount}
+use Rattle.model.specs.Tables.{kinds, kindCount, mostThreshold}
 use Rattle.model.specs.Store.{Reduced, semiJoins, isStoredTable, storedRows, tableWords, semiJoinEntries, storedStart, storedWords, vpEntryAt, semiJoinEntryAt}
 use Rattle.tables.specs.Columns.{columnNumber}
-use Rattle.tables.specs.SiteWords.{siteIn}
+use Rattle.tables.specs.SiteWords.{siteIn, ImageOf}
 use Rattle.statistics.specs.Ranges.{rangeAt, apart}
+
+-- the words of which the semi-joins are asked: an image, a threshold, and stored rows from `first` up to `used`
+pub record SemiJoinWords (t count : ℕ) (words : List ℕ) (first used : ℕ) : Type 0 where
+  pub image : ImageOf count words
+  pub threshold : t ≤ mostThreshold
+  pub begins : first ≡ storedStart (siteIn count words)
+  pub ordered : first ≤ used
+  pub inside : used ≤ length words
 
 -- rows that are stored at `here`, where `start` says, `left` of them, which end at `used` or before
 unfoldable pub storedHolds : List ℕ → List Row → ℕ → ℕ → ℕ → ℕ → Bool

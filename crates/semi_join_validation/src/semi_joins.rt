@@ -4,12 +4,12 @@ ghost use mathlib.Core.Bool.{cond};
 ghost use lib.ListN.{length};
 ghost use Rattle.model.specs.Site.{rowTotal};
 ghost use Rattle.model.specs.Tables.{kindCount, mostThreshold};
-ghost use Rattle.model.specs.Store.{storedRows, rowsStart, storedStart, semiJoinPlace, semiJoinEntryAt};
+ghost use Rattle.model.specs.Store.{storedRows, rowsStart, semiJoinPlace, semiJoinEntryAt};
 ghost use Rattle.tables.specs.LeftRows.{leftOf};
 ghost use Rattle.tables.specs.SiteWords.{siteIn, ImageOf, reducedAt};
 ghost use Rattle.probes.specs.Probed.{Probed};
 ghost use Rattle.statistics.specs.IndexedTables.{IndexedTables};
-ghost use Rattle.semi_join_validation.specs.Joins.{storedHolds, joinHolds, joinsHold};
+ghost use Rattle.semi_join_validation.specs.Joins.{SemiJoinWords, storedHolds, joinHolds, joinsHold};
 ghost use Rattle.site_validation.specs.declared.entries.Extent.the-variants.{Ends, Invalid};
 use crate::empty_pairs::is_empty_pair;
 use probes::comparing::compare_partnered;
@@ -108,7 +108,7 @@ fn each_semi_join_holds(
     first: usize,
     used: usize,
 ) -> bool
-    requires { ⌜ ImageOf count (now w) × (t ≤ mostThreshold) × (first ≡ storedStart (siteIn count (now w))) × (first ≤ used) × (used ≤ length (now w)) ⌝ }
+    requires { ⌜ SemiJoinWords t count (now w) first used ⌝ }
     requires { ⌜ IndexedTables count (now w) (now objects) (now ranges) ⌝ }
     ensures { λ r. ⌜ r ≡ joinsHold t count (now (w .entry)) used ⌝ }
 {
@@ -162,7 +162,7 @@ fn semi_joins_hold_with(
     used: usize,
     objects: &mut [u32],
 ) -> bool
-    requires { ⌜ ImageOf count (now w) × (t ≤ mostThreshold) × (first ≡ storedStart (siteIn count (now w))) × (first ≤ used) × (used ≤ length (now w)) × (rowTotal (siteIn count (now w)) ≤ length (now objects)) ⌝ }
+    requires { ⌜ SemiJoinWords t count (now w) first used × (rowTotal (siteIn count (now w)) ≤ length (now objects)) ⌝ }
     ensures { λ r. ⌜ r ≡ joinsHold t count (now (w .entry)) used ⌝ }
 {
     let mut ranges = [0u32; 96];
@@ -173,7 +173,7 @@ fn semi_joins_hold_with(
 
 // The same, with words of its own: few for a small site, where to clear them all would cost more than the question.
 pub fn semi_joins_hold(t: usize, w: &[u32], count: usize, first: usize, used: usize) -> bool
-    requires { ⌜ ImageOf count (now w) × (t ≤ mostThreshold) × (first ≡ storedStart (siteIn count (now w))) × (first ≤ used) × (used ≤ length (now w)) ⌝ }
+    requires { ⌜ SemiJoinWords t count (now w) first used ⌝ }
     ensures { λ r. ⌜ r ≡ joinsHold t count (now (w .entry)) used ⌝ }
 {
     if first <= rows_start(count) + 2 * 64 {

@@ -36,12 +36,12 @@ step j =
     let turn-of = j .before .before .loop-test .taken in
     ⊎-elim
     (λ w.
-    let (first, empty) = empty-pair (s .args .ranges .now) (s .pre .0 .0) (s .pre .1 .measured) _ _ turn-of (turn .partner turn-of) _ (sym (j .before .is-empty-pair .ensures) ∙ w .0 .taken) in
+    let (first, empty) = empty-pair (s .args .ranges .now) (s .pre .0 .image) (s .pre .1 .measured) _ _ turn-of (turn .partner turn-of) _ (sym (j .before .is-empty-pair .ensures) ∙ w .0 .taken) in
     rw (w .1, w .2)
-    (omega arith, last-kind turn turn-of, pair-joined _ _ _ (s .pre .0 .0) (s .pre .0 .4) _ _ turn-of (turn .partner turn-of) empty (rw first at (l .loop .inv .1))))
+    (omega arith, last-kind turn turn-of, pair-joined _ _ _ (s .pre .0 .image) (s .pre .0 .inside) _ _ turn-of (turn .partner turn-of) empty (rw first at (l .loop .inv .1))))
     (λ w.
     rw (w .5, w .6)
-    (le-refl _, turn, joined-more _ _ _ _ (s .pre .0 .0) (s .pre .0 .4) (l .loop .inv .1) (place-below _ _ _ turn-of (turn .partner turn-of) (turn .kind)) (w .1 .ensures) (w .3 .given .1)))
+    (le-refl _, turn, joined-more _ _ _ _ (s .pre .0 .image) (s .pre .0 .inside) (l .loop .inv .1) (place-below _ _ _ turn-of (turn .partner turn-of) (turn .kind)) (w .1 .ensures) (w .3 .given .1)))
     (j .if1 .came)
 
 -- the partner and the kind whose turn is next
@@ -59,18 +59,18 @@ among : (j : tie.Joined1 Inv-loop μ-loop) → let l = j .before .before .before
 among j = place-below _ _ _ (below j) (step j .1 .partner (below j)) (step j .1 .kind)
 
 rows-start-requires : tie.Need-rows-start-requires Inv-loop μ-loop
-rows-start-requires c κs = few-predicates (c .before .before .pre .0 .0)
+rows-start-requires c κs = few-predicates (c .before .before .pre .0 .image)
 
 loop-holds : tie.Need-loop-holds Inv-loop μ-loop
 loop-holds c =
     let s = c .before .before .before in
-    (first-turn (s .args .count), rw (first-place (s .args .count), s .pre .0 .2) (joined-none (s .args .t) _ _ (s .args .used) (omega (arith, s .pre .0 .2, s .pre .0 .3))))
+    (first-turn (s .args .count), rw (first-place (s .args .count), s .pre .0 .begins) (joined-none (s .args .t) _ _ (s .args .used) (omega (arith, s .pre .0 .begins, s .pre .0 .ordered))))
 
 is-empty-pair-requires : tie.Need-is-empty-pair-requires Inv-loop μ-loop
 is-empty-pair-requires c κs =
     let l = c .before in
     let s = start l in
-    (s .pre .0 .0, c .loop-test .taken, l .loop .inv .0 .partner (c .loop-test .taken))
+    (s .pre .0 .image, c .loop-test .taken, l .loop .inv .0 .partner (c .loop-test .taken))
 
 sub-k : tie.Need-sub-k Inv-loop μ-loop
 sub-k c = omega arith
@@ -82,7 +82,7 @@ semi-join-end-requires c κs =
     let s = start l in
     let inv = l .loop .inv in
     let turn-of = i .loop-test .taken in (
-      (s .pre .0 .0, turn-of, inv .0 .partner turn-of, inv .0 .kind, s .pre .0 .1, inv .1 .room, s .pre .0 .4),
+      (s .pre .0 .image, turn-of, inv .0 .partner turn-of, inv .0 .kind, s .pre .0 .threshold, inv .1 .room, s .pre .0 .inside),
       (s .pre .1, l .before .rows-start .ensures),
     )
 
@@ -98,7 +98,7 @@ returns c =
     let s = start l in
     let inv = l .loop .inv in
     let turn-of = c .before .before .before .before .before .loop-test .taken in
-    sym (one-fails _ _ _ _ (s .pre .0 .0) (s .pre .0 .4) (inv .1) (place-below _ _ _ turn-of (inv .0 .partner turn-of) (inv .0 .kind)) (c .before .before .semi-join-end .ensures) (c .enum-told .given .1))
+    sym (one-fails _ _ _ _ (s .pre .0 .image) (s .pre .0 .inside) (inv .1) (place-below _ _ _ turn-of (inv .0 .partner turn-of) (inv .0 .kind)) (c .before .before .semi-join-end .ensures) (c .enum-told .given .1))
 
 add-k : tie.Need-add-k Inv-loop μ-loop
 add-k c = omega (arith, step (c .before) .1 .kind)
@@ -107,13 +107,13 @@ add-q : tie.Need-add-q Inv-loop μ-loop
 add-q c =
     let j = c .before .before in
     let l = j .before .before .before in
-    omega (arith, few-predicates (start l .pre .0 .0), l .loop .inv .0 .partner (below j))
+    omega (arith, few-predicates (start l .pre .0 .image), l .loop .inv .0 .partner (below j))
 
 add-p : tie.Need-add-p Inv-loop μ-loop
 add-p c =
     let j = c .before .before .before in
     let l = j .before .before .before in
-    omega (arith, few-predicates (start l .pre .0 .0), below j)
+    omega (arith, few-predicates (start l .pre .0 .image), below j)
 
 loop-less : tie.Need-loop-less Inv-loop μ-loop
 loop-less c =
@@ -141,7 +141,7 @@ returns-2 : tie.Need-returns-2 Inv-loop μ-loop
 returns-2 c =
     let l = c .before in
     let s = start l in
-    joined-all _ _ _ _ (s .pre .0 .0) (s .pre .0 .4) (l .loop .inv .1) (last-turn (l .loop .inv .0) (omega arith))
+    joined-all _ _ _ _ (s .pre .0 .image) (s .pre .0 .inside) (l .loop .inv .1) (last-turn (l .loop .inv .0) (omega arith))
 
 pub each-semi-join-holds-spec : {M : Type 1} → statement M
 each-semi-join-holds-spec =

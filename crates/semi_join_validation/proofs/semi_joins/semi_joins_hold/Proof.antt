@@ -16,17 +16,17 @@ few-words : (s : tie.Start) {start : ℕ} → start ≡ rowsStart (s .args .coun
     → rowTotal (siteIn (s .args .count) (s .args .w .now)) ≤ 64
 few-words s {start} e h =
     let first : s .args .first ≡ rowsStart (s .args .count) + 2 * rowTotal (siteIn (s .args .count) (s .args .w .now)) =
-    s .pre .2 ∙ ap (λ (k : ℕ). rowsStart k + 2 * rowTotal (siteIn (s .args .count) (s .args .w .now))) (s .pre .0 .predicates) in
+    s .pre .begins ∙ ap (λ (k : ℕ). rowsStart k + 2 * rowTotal (siteIn (s .args .count) (s .args .w .now))) (s .pre .image .predicates) in
     omega (arith, e, h, first)
 
 rows-start-requires : tie.Need-rows-start-requires
-rows-start-requires c κs = few-predicates (c .before .pre .0)
+rows-start-requires c κs = few-predicates (c .before .pre .image)
 
 mul-if1 : tie.Need-mul-if1
 mul-if1 c = search needs
 
 add-if1 : tie.Need-add-if1
-add-if1 c = omega (arith, c .rows-start .ensures, few-semi-joins (few-predicates (c .before .before .pre .0)), few-predicates (c .before .before .pre .0))
+add-if1 c = omega (arith, c .rows-start .ensures, few-semi-joins (few-predicates (c .before .before .pre .image)), few-predicates (c .before .before .pre .image))
 
 slice-aggregate-semi-joins-hold-with : tie.Need-slice-aggregate-semi-joins-hold-with
 slice-aggregate-semi-joins-hold-with c = search needs
@@ -34,7 +34,7 @@ slice-aggregate-semi-joins-hold-with c = search needs
 semi-joins-hold-with-requires : tie.Need-semi-joins-hold-with-requires
 semi-joins-hold-with-requires c κs =
     let s = c .before .before .before .before in
-    (s .pre .0, s .pre .1, s .pre .2, s .pre .3, s .pre .4, few-words s (c .before .before .rows-start .ensures) (c .before .if1 .taken))
+    (s .pre, few-words s (c .before .before .rows-start .ensures) (c .before .if1 .taken))
 
 returns : tie.Need-returns
 returns c = search needs
@@ -45,7 +45,7 @@ slice-aggregate-semi-joins-hold-with-2 c = search needs
 semi-joins-hold-with-requires-2 : tie.Need-semi-joins-hold-with-requires-2
 semi-joins-hold-with-requires-2 c κs =
     let s = c .before .before .before .before in
-    (s .pre .0, s .pre .1, s .pre .2, s .pre .3, s .pre .4, proper _ (s .pre .0 .proper) .row-limit)
+    (s .pre, proper _ (s .pre .image .proper) .row-limit)
 
 returns-2 : tie.Need-returns-2
 returns-2 c = search needs

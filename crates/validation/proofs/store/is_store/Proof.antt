@@ -103,13 +103,14 @@ cast-semi-joins-hold c = search needs
 semi-joins-hold-requires : tie.Need-semi-joins-hold-requires
 semi-joins-hold-requires c κs =
     let before = c .before .before in
-    let x = asked before in (
-      words-image _ x (sym (c .before .tables-proper .ensures) ∙ c .if7 .taken),
-      x .threshold,
-      ended (before .before) .1 ∙ sym (stored-start _ x),
-      before .if6 .left,
-      x .inside,
-    )
+    let x = asked before in
+    record {
+      image = words-image _ x (sym (c .before .tables-proper .ensures) ∙ c .if7 .taken);
+      threshold = x .threshold;
+      begins = ended (before .before) .1 ∙ sym (stored-start _ x);
+      ordered = before .if6 .left;
+      inside = x .inside;
+    }
 
 returns-8 : tie.Need-returns-8
 returns-8 c =
