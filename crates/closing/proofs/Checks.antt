@@ -10,7 +10,7 @@ use Rattle.model.specs.PatternFile.{readPattern}
 use Rattle.model.specs.Calls.{either, Check, checkOf, checked}
 use Rattle.model.proofs.Calls.{check-accepted, check-store}
 use Rattle.catalog.specs.Lookups.{Validated}
-use Rattle.patterns.specs.Members.{patternIn, PatternHolds}
+use Rattle.patterns.specs.Members.{patternIn, PatternHolds, EndsHold}
 use Rattle.patterns.specs.Replies.{PatternReadAs}
 use Rattle.patterns.specs.declared.pattern_reader.PatternRead.{PatternRead}
 use Rattle.patterns.proofs.ReplyLaws.{reply-refused, reply-given, either-refused, either-gives}
@@ -25,7 +25,7 @@ pattern-checked words bytes r validated read = rw (check-store words bytes valid
     go : (reply : Reply Pattern) → PatternReadAs (decoded words .site) reply r
         → CheckedAs words (either refused reply (λ pattern. gives (checkOf (decoded words) pattern))) r
     go (refused n) t = t
-    go (gives pattern) t = (t .0, (validated, t .1 .0, ap (λ (p : Pattern). checkOf (decoded words) p) (sym (t .1 .1))))
+    go (gives pattern) t = (t .0, (validated, t .1 .0, t .1 .1, ap (λ (p : Pattern). checkOf (decoded words) p) (sym (t .1 .2))))
 
 module _ (words bytes : List ℕ) (r : PatternRead) (read : CheckedAs words (checked words bytes) r) where
   module _ {B : Type 0} (refusal : ℕ → B) (next : Check → B) where
@@ -35,10 +35,11 @@ module _ (words bytes : List ℕ) (r : PatternRead) (read : CheckedAs words (che
     pub after-check : r .refusal ≡ 0 → either refusal (checked words bytes) next ≡ next (checkOf (decoded words) (patternIn (r .pattern)))
     after-check h =
         let (check, gave, given) = reply-given (CheckGiven words r) (checked words bytes) read h in
-        either-gives refusal next gave ∙ ap next (given .2)
+        either-gives refusal next gave ∙ ap next (given .3)
 
   pub check-given : r .refusal ≡ 0
       → Validated words × PatternHolds (decoded words .site) (r .pattern) × (isAccepted (decoded words .site) (patternIn (r .pattern)) ≡ true)
+      × EndsHold (r .pattern) (r .subjects) (r .objects)
   check-given h =
       let (check, gave, given) = reply-given (CheckGiven words r) (checked words bytes) read h in
-      (given .0, given .1, rw (given .2) at (check-accepted words bytes check gave))
+      (given .0, given .1, rw (given .3) at (check-accepted words bytes check gave), given .2)

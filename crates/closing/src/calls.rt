@@ -92,5 +92,7 @@ pub fn run(store: &[u32], pattern: &[u8], plan: &[u8], rows: &mut [u32]) -> Answ
     if none_by_counts(store, accepted) {
         return Answer::None;
     }
-    run_plan(store, accepted, given.plan, rows)
+    let subjects = check.subjects;
+    let objects = check.objects;
+    run_plan(store, accepted, &subjects, &objects, given.plan, rows)
 }

@@ -67,10 +67,9 @@ predicateReader site met subject = do
   askPredicate site (positionOf p)
   objectReader met subject (positionOf p)
 
--- what is given of the three, with the predicate's place and the numbers of the other two
-abbrev pub memberOf : Position → ℕ → Position → ℕ → ℕ → ℕ → Member
-memberOf subject term object table first third =
-    record { triple = record { subject = subject; predicate = Term term; object = object }; table = table; subject = first; object = third }
+-- what is given of the three, with the predicate's place
+abbrev pub memberOf : Position → ℕ → Position → ℕ → Member
+memberOf subject term object table = record { triple = record { subject = subject; predicate = Term term; object = object }; table = table }
 
 module _ (site : Site) (met : ℕ) (s : List ℕ) (at : ℕ) where
   pub no-subject : numberAt s at ≡ Bad → MemberReadOf site met at s (Refused 11)
@@ -127,16 +126,19 @@ module _ (site : Site) (met : ℕ) (s : List ℕ) (at : ℕ) where
                   (rw (third .question, replied-refused n (drop next s) h) refl)
 
               pub member-given : {count : ℕ} → n ≡ 0 → count ≡ variablesWith met-then object
-                  → MemberReadOf site met at s (MemberGiven (memberOf subject term object table (first .read .value) (third .read .value)) count next)
+                  → MemberReadOf site met at s (MemberGiven (memberOf subject term object table) (first .read .value) (third .read .value) count next)
               unfolding after variables
               member-given e counted done w =
                   let found = place-found site term _ place in
                   rw (predicate-passed done w, number-value 11 s behind (third .read .stands), ← known, ← third .read .position)
                   (rw (third .question, replied-passed (drop next s) e) (
-                    memberOf subject term object table (first .read .value) (third .read .value),
+                    memberOf subject term object table,
+                    first .read .value,
+                    third .read .value,
                     next,
                     rw (counted, known) refl,
                     refl,
                     refl,
-                    record { inside = found .0; predicate = ap Term (sym (found .1)); subject = sym (first .read .position); object = sym (third .read .position) },
+                    record { inside = found .0; predicate = ap Term (sym (found .1)) },
+                    record { subject-is = sym (first .read .position); object-is = sym (third .read .position) },
                   ))

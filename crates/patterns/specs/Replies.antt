@@ -8,7 +8,7 @@ use Rattle.model.specs.Site.{Site}
 use Rattle.model.specs.Pattern.{Pattern, positions, variables, width}
 use Rattle.model.specs.PatternFile.{triplePattern}
 use Rattle.model.specs.declared.pattern.TriplePattern.{TriplePattern}
-use Rattle.patterns.specs.Members.{patternIn, MemberOf, PatternHolds}
+use Rattle.patterns.specs.Members.{patternIn, TableOf, EndsOf, EndsHold, PatternHolds}
 use Rattle.patterns.specs.declared.pattern.Member.{Member}
 use Rattle.patterns.specs.declared.pattern_reader.MemberRead.{MemberRead}
 use Rattle.patterns.specs.declared.pattern_reader.MemberRead.the-variants.{Member as MemberGiven, Refused}
@@ -23,8 +23,9 @@ replied (suc n) = λ bytes. refused (suc n)
 abbrev pub MemberReadAs : Site → ℕ → Reply (TriplePattern × List ℕ) → List ℕ → MemberRead → Type 0
 MemberReadAs site n (refused m) s r = r ≡ Refused m
 MemberReadAs site n (gives x) s r =
-    (member : Member) × (next : ℕ) × (r ≡ MemberGiven member (variables n (positions (x .0))) next)
-    × (x .1 ≡ drop next s) × (member .triple ≡ x .0) × MemberOf site member
+    (member : Member) × (subject : ℕ) × (object : ℕ) × (next : ℕ)
+    × (r ≡ MemberGiven member subject object (variables n (positions (x .0))) next)
+    × (x .1 ≡ drop next s) × (member .triple ≡ x .0) × TableOf site member × EndsOf member subject object
 
 -- the triple pattern at a place of the bytes, behind any that have n variables
 abbrev pub MemberReadOf : Site → ℕ → ℕ → List ℕ → MemberRead → Type 0
@@ -36,4 +37,5 @@ ReplyAs number Given (refused n) = (number ≡ n) × (0 < n)
 ReplyAs number Given (gives a) = (number ≡ 0) × Given a
 
 abbrev pub PatternReadAs : Site → Reply Pattern → PatternRead → Type 0
-PatternReadAs site reply r = ReplyAs (r .refusal) (λ pattern. PatternHolds site (r .pattern) × (patternIn (r .pattern) ≡ pattern)) reply
+PatternReadAs site reply r =
+    ReplyAs (r .refusal) (λ pattern. PatternHolds site (r .pattern) × EndsHold (r .pattern) (r .subjects) (r .objects) × (patternIn (r .pattern) ≡ pattern)) reply

@@ -8,12 +8,10 @@ pub const MOST_TRIPLE_PATTERNS: usize = 8;
 
 pub const MOST_VARIABLES: u32 = 8;
 
-// A triple pattern of a check, the place of its predicate among those that the store declares, and its subject and object as numbers.
+// A triple pattern of a check, and the place of its predicate among those that the store declares.
 pub struct Member {
     pub triple: TriplePattern,
     pub table: usize,
-    pub subject: u32,
-    pub object: u32,
 }
 
 // The triple patterns of a check, their count, and V.
@@ -32,10 +30,5 @@ pub fn no_member() -> Member
         predicate: Position::Term(0),
         object: Position::Term(0),
     };
-    Member {
-        triple,
-        table: 0,
-        subject: 0,
-        object: 0,
-    }
+    Member { triple, table: 0 }
 }

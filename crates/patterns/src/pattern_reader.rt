@@ -21,9 +21,9 @@ use tables::limits::MOST_TERM;
 use tables::number::Number;
 use tables::number::read_number;
 
-// A triple pattern, how many variables there are with it, and the place after it; or the refusal's number.
+// A triple pattern, the numbers of its subject and object, how many variables there are with it, and the place after it; or the refusal's number.
 pub enum MemberRead {
-    Member(Member, u32, usize),
+    Member(Member, u32, u32, u32, usize),
     Refused(u32),
 }
 
@@ -68,21 +68,21 @@ pub fn read_member(w: &[u32], s: &[u8], at: usize, met: u32) -> MemberRead
         object,
     };
     MemberRead::Member(
-        Member {
-            triple,
-            table,
-            subject: first,
-            object: third,
-        },
+        Member { triple, table },
+        first,
+        third,
         variables_with(met_then, object),
         next,
     )
 }
 
-// What was read of a pattern's file: 0 and the pattern, or the refusal's number.
+// What was read of a pattern's file: 0, the pattern and the numbers of its subjects and objects, or the refusal's number. The numbers stand
+// beside the pattern, since it is copied where they are not asked for.
 pub struct PatternRead {
     pub refusal: u32,
     pub pattern: Pattern,
+    pub subjects: [u32; 8],
+    pub objects: [u32; 8],
 }
 
 // Nothing stands beside a refusal.
@@ -98,6 +98,8 @@ pub fn pattern_refused(refusal: u32) -> PatternRead
             count: 0,
             width: 0,
         },
+        subjects: [0u32; 8],
+        objects: [0u32; 8],
     }
 }
 
@@ -115,6 +117,8 @@ pub fn read_pattern(w: &[u32], s: &[u8]) -> PatternRead
     }
     let none = no_member();
     let mut members = [none; 8];
+    let mut subjects = [0u32; 8];
+    let mut objects = [0u32; 8];
     let mut met: u32 = 0;
     let mut next = at;
     for i in 0..count {
@@ -122,8 +126,10 @@ pub fn read_pattern(w: &[u32], s: &[u8]) -> PatternRead
             MemberRead::Refused(number) => {
                 return pattern_refused(number);
             }
-            MemberRead::Member(member, variables, after) => {
+            MemberRead::Member(member, subject, object, variables, after) => {
                 members[i] = member;
+                subjects[i] = subject;
+                objects[i] = object;
                 met = variables;
                 next = after;
             }
@@ -139,5 +145,7 @@ pub fn read_pattern(w: &[u32], s: &[u8]) -> PatternRead
             count,
             width: met,
         },
+        subjects,
+        objects,
     }
 }

@@ -24,7 +24,7 @@ use Rattle.model.proofs.Below.{below-last}
 use Rattle.model.proofs.Partition.{proper, vp-table}
 use Rattle.model.proofs.Places.{qualifying}
 use Rattle.tables.proofs.Entries.{table-fewer}
-use Rattle.patterns.specs.Members.{memberAt, patternIn, MemberOf, PatternCells, PatternHolds}
+use Rattle.patterns.specs.Members.{memberAt, patternIn, TableOf, PatternCells, PatternHolds}
 use Rattle.patterns.specs.declared.pattern.Member.{Member}
 use Rattle.patterns.specs.declared.pattern.Pattern.{Pattern as Members}
 use Rattle.patterns.proofs.MemberLaws.{pattern-length, triple-member}
@@ -36,7 +36,7 @@ use Rattle.plans.specs.declared.choosing.Chooseable.the-variants.{Rows, 
 
 module _ (site : Site) (yes-site : isSite site ≡ true) where
   -- the VP table of a predicate is the one at its place
-  pub member-table : {m : Member} → MemberOf site m → predicateTable site (m .triple .predicate) ≡ tableAt site (m .table) .rows
+  pub member-table : {m : Member} → TableOf site m → predicateTable site (m .triple .predicate) ≡ tableAt site (m .table) .rows
   member-table {m} t = rw (t .predicate) (vp-table site (tableAt site (m .table)) yes-site (at-place site noTable (m .table) (t .inside)))
 
   pub table-few : (i : ℕ) → length (tableAt site i .rows) ≤ mostRows
@@ -57,7 +57,7 @@ same-named k q s e p u p′ u′ = e ∙ rw (p, u, p′, u′) refl
 
 -- by its tests, and by what is read of the store: the threshold, the rows left and the rows of the full table
 pub open-by : {store : Store} {a b : Member} (i j k : ℕ) {t n m : ℕ} {named stored : Bool}
-    → isSite (store .site) ≡ true → MemberOf (store .site) a → MemberOf (store .site) b
+    → isSite (store .site) ≡ true → TableOf (store .site) a → TableOf (store .site) b
     → t ≡ store .threshold → n ≡ length (semiJoin (kindAt k) (tableAt (store .site) (a .table) .rows) (tableAt (store .site) (b .table) .rows))
     → m ≡ length (tableAt (store .site) (a .table) .rows)
     → qualifiesBy (a .triple) i (b .triple) j k ≡ named → isStored t n m ≡ stored

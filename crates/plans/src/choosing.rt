@@ -5,7 +5,7 @@ ghost use Rattle.model.specs.Plan.{mayChoose};
 ghost use Rattle.model.specs.Planner.{chooseTable, chosenRows};
 ghost use Rattle.model.specs.Store.{decoded};
 ghost use Rattle.catalog.specs.Lookups.{Validated};
-ghost use Rattle.patterns.specs.Members.{patternIn, MemberOf, PatternHolds};
+ghost use Rattle.patterns.specs.Members.{patternIn, TableOf, PatternHolds};
 ghost use Rattle.plans.specs.Choices.{qualifiesBy, chooseableTable};
 use catalog::lookup::semi_join_rows;
 use catalog::lookup::table_rows;
@@ -41,7 +41,7 @@ pub enum Chooseable {
 
 // Kind k for a at place i against b at place j: it may be chosen if it qualifies and is stored.
 pub fn reduced_table(w: &[u32], a: Member, i: usize, b: Member, j: usize, k: usize) -> Chooseable
-    requires { ⌜ Validated (now w) × MemberOf (decoded (now w) .site) a × MemberOf (decoded (now w) .site) b × (k < kindCount) ⌝ }
+    requires { ⌜ Validated (now w) × TableOf (decoded (now w) .site) a × TableOf (decoded (now w) .site) b × (k < kindCount) ⌝ }
     ensures { λ r. ⌜ r ≡ chooseableTable (decoded (now (w .entry))) a i b j k ⌝ }
 {
     if !qualifies(a.triple, i, b.triple, j, k) {

@@ -6,7 +6,7 @@ use Rattle.model.specs.Store.{decoded}
 use Rattle.model.specs.Pattern.{isAccepted}
 use Rattle.model.specs.Calls.{run}
 use Rattle.catalog.specs.Lookups.{Validated}
-use Rattle.patterns.specs.Members.{patternIn, PatternHolds}
+use Rattle.patterns.specs.Members.{patternIn, PatternHolds, EndsHold}
 use Rattle.running.proofs.GivenPlan.{given-proper}
 use Rattle.closing.proofs.Checks.{after-refusal, check-given}
 use Rattle.closing.proofs.Runs.{run-plan-refused, run-given}
@@ -25,10 +25,11 @@ accepted-check : (c : tie.After-accepted)
     → let words = c .before .before .before .before .before .before .before .args .store .now in
     let pattern = c .before .before .checked .result .pattern in
     Validated words × PatternHolds (decoded words .site) pattern × (isAccepted (decoded words .site) (patternIn pattern) ≡ true)
+    × EndsHold pattern (c .before .before .checked .result .subjects) (c .before .before .checked .result .objects)
 accepted-check c = check-given _ _ _ (c .before .before .checked .ensures) (c .before .if1 .left)
 
 read-plan-requires : tie.Need-read-plan-requires
-read-plan-requires c κs = let (validated, holds, accepted) = accepted-check c in (validated, holds)
+read-plan-requires c κs = let (validated, holds, accepted, numbers) = accepted-check c in (validated, holds)
 
 returns-2 : tie.Need-returns-2
 returns-2 c =
@@ -36,7 +37,7 @@ returns-2 c =
     sym (run-plan-refused _ _ _ _ _ (check .before .checked .ensures) (check .if1 .left) _ (c .before .read-plan .ensures) (c .if2 .taken))
 
 none-by-counts-requires : tie.Need-none-by-counts-requires
-none-by-counts-requires c κs = let (validated, holds, accepted) = accepted-check (c .before .before) in (validated, holds)
+none-by-counts-requires c κs = let (validated, holds, accepted, numbers) = accepted-check (c .before .before) in (validated, holds)
 
 returns-3 : tie.Need-returns-3
 returns-3 c =
@@ -47,16 +48,17 @@ returns-3 c =
 
 run-plan-requires : tie.Need-run-plan-requires
 run-plan-requires c κs =
-    let given = c .before .before .before in
-    let (validated, holds, accepted) = accepted-check (given .before .before) in
-    ((validated, holds, accepted), given-proper _ _ accepted _ _ (given .before .read-plan .ensures) (given .if2 .left))
+    let counted = c .before .before .before .before in
+    let given = counted .before .before .before in
+    let (validated, holds, accepted, numbers) = accepted-check (given .before .before) in
+    ((validated, holds, accepted), (numbers, given-proper _ _ accepted _ _ (given .before .read-plan .ensures) (given .if2 .left)))
 
 same-length : tie.Need-same-length
 same-length c = search needs
 
 returns-4 : tie.Need-returns-4
 returns-4 c =
-    let counted = c .before .before .before .before in
+    let counted = c .before .before .before .before .before .before .before .before in
     let given = counted .before .before in
     let check = given .before .before .before in
     let counts = sym (counted .before .none-by-counts .ensures) ∙ counted .if3 .left in

@@ -18,10 +18,11 @@ use Rattle.patterns.proofs.pattern_reader.read_pattern.Statement.{state
 use Rattle.patterns.proofs.pattern_reader.read_pattern.Tie as tie
 
 abbrev Inv-loop : tie.InvT-loop
-Inv-loop w s n at count members₀ met₀ next₀ i₀ members met next i = MembersRead (decoded w .site) n (drop at s) s members met next i
+Inv-loop w s n at count members₀ subjects₀ objects₀ met₀ next₀ i₀ members subjects objects met next i =
+    MembersRead (decoded w .site) n (drop at s) s members subjects objects met next i
 
 abbrev μ-loop : tie.MeasureT-loop
-μ-loop w s n at count members₀ met₀ next₀ i₀ members met next i = n - i
+μ-loop w s n at count members₀ subjects₀ objects₀ met₀ next₀ i₀ members subjects objects met next i = n - i
 
 -- ---- the count
 
@@ -72,7 +73,7 @@ no-member-requires : tie.Need-no-member-requires Inv-loop μ-loop
 no-member-requires c κs = search needs
 
 loop-holds : tie.Need-loop-holds Inv-loop μ-loop
-loop-holds c = no-member-read (count-most (c .before)) refl
+loop-holds c = no-member-read (count-most (c .before)) refl refl refl
 
 read-member-requires : tie.Need-read-member-requires Inv-loop μ-loop
 read-member-requires c κs = search needs
@@ -102,6 +103,18 @@ mul-members c = search needs
 
 array-set-from-members : tie.Need-array-set-from-members Inv-loop μ-loop
 array-set-from-members c = search needs
+
+mul-subjects : tie.Need-mul-subjects Inv-loop μ-loop
+mul-subjects c = search needs
+
+array-write-subjects : tie.Need-array-write-subjects Inv-loop μ-loop
+array-write-subjects c = search needs
+
+mul-objects : tie.Need-mul-objects Inv-loop μ-loop
+mul-objects c = search needs
+
+array-write-objects : tie.Need-array-write-objects Inv-loop μ-loop
+array-write-objects c = search needs
 
 add-i : tie.Need-add-i Inv-loop μ-loop
 add-i c = search needs
@@ -155,6 +168,10 @@ read-pattern-spec =
     enum-known-member
     mul-members
     array-set-from-members
+    mul-subjects
+    array-write-subjects
+    mul-objects
+    array-write-objects
     add-i
     loop-less
     loop-again
