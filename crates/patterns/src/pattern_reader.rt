@@ -28,7 +28,7 @@ pub enum MemberRead {
 }
 
 // The triple pattern at a place of the bytes, `met` variables before it: subject, predicate, object, each questioned as it is read.
-pub fn read_member(w: &[u32], s: &[u8], at: usize, met: u32) -> MemberRead
+fn read_member(w: &[u32], s: &[u8], at: usize, met: u32) -> MemberRead
     requires { ⌜ Validated (now w) × (met ≤ mostVariables) ⌝ }
     ensures { λ r. ⌜ MemberReadOf (decoded (now (w .entry)) .site) met at (now (s .entry)) r ⌝ }
 {

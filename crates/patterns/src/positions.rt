@@ -101,7 +101,7 @@ fn any_of(a: bool, b: bool, c: bool) -> bool
 }
 
 // A position of q holds the same variable as x.
-pub fn has_variable(q: TriplePattern, x: Position) -> bool
+fn has_variable(q: TriplePattern, x: Position) -> bool
     ensures { λ r. ⌜ r ≡ any (sameVariable x) (positions q) ⌝ }
 {
     let subject = q.subject;

@@ -22,7 +22,7 @@ pub fn mark_joined(pattern: Pattern, i: usize, joined: &mut [bool; 8])
 }
 
 // Some remaining place shares a variable with those taken.
-pub fn some_joined(count: usize, taken: &[bool; 8], joined: &[bool; 8]) -> bool
+fn some_joined(count: usize, taken: &[bool; 8], joined: &[bool; 8]) -> bool
     requires { ⌜ count ≤ mostTriplePatterns ⌝ }
     ensures { λ r. ⌜ r ≡ someJoined count (now (taken .entry)) (now (joined .entry)) ⌝ }
 {
@@ -35,7 +35,7 @@ pub fn some_joined(count: usize, taken: &[bool; 8], joined: &[bool; 8]) -> bool
 }
 
 // More terms win, then fewer rows.
-pub fn beats(terms: usize, rows: usize, most: usize, fewest: usize) -> bool
+fn beats(terms: usize, rows: usize, most: usize, fewest: usize) -> bool
     ensures { λ r. ⌜ r ≡ beatsBy terms rows most fewest ⌝ }
 {
     most < terms || (terms == most && rows < fewest)

@@ -15,7 +15,7 @@ use patterns::positions::term_count;
 use plans::choosing::choose_table;
 
 // For each place: the choice of its table, the rows of that table, and the terms among its positions.
-pub fn choose_tables(
+fn choose_tables(
     w: &[u32],
     pattern: Pattern,
     choices: &mut [usize; 8],

@@ -40,7 +40,7 @@ pub enum Chooseable {
 }
 
 // Kind k for a at place i against b at place j: it may be chosen if it qualifies and is stored.
-pub fn reduced_table(w: &[u32], a: Member, i: usize, b: Member, j: usize, k: usize) -> Chooseable
+fn reduced_table(w: &[u32], a: Member, i: usize, b: Member, j: usize, k: usize) -> Chooseable
     requires { ⌜ Validated (now w) × TableOf (decoded (now w) .site) a × TableOf (decoded (now w) .site) b × (k < kindCount) ⌝ }
     ensures { λ r. ⌜ r ≡ chooseableTable (decoded (now (w .entry))) a i b j k ⌝ }
 {

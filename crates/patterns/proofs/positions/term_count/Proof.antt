@@ -12,9 +12,9 @@ use borrow.Author.Needs.{needs}
 use Rattle.patterns.proofs.positions.term_count.Statement.{statement}
 use Rattle.patterns.proofs.positions.term_count.Tie as tie
 
-one-more : (x : Position) (xs : List Position) → length (filter isFixed (x ∷ xs)) ≡ length (filter isFixed (x ∷ [])) + length (filter isFixed xs)
-one-more (Term t) xs = omega arith
-one-more (Var v) xs = omega arith
+fixed-cons : (x : Position) (xs : List Position) → length (filter isFixed (x ∷ xs)) ≡ length (filter isFixed (x ∷ [])) + length (filter isFixed xs)
+fixed-cons (Term t) xs = omega arith
+fixed-cons (Var v) xs = omega arith
 
 fixed-requires : tie.Need-fixed-requires
 fixed-requires c κs = search needs
@@ -34,7 +34,7 @@ add-result-2 c = search needs
 returns : tie.Need-returns
 returns c = let q = c .before .before .before .args .q in
     rw (c .before .before .fixed .ensures .0, c .before .fixed2 .ensures .0, c .fixed3 .ensures .0)
-    (sym (one-more (q .subject) (q .predicate ∷ q .object ∷ []) ∙ ap (λ (n : ℕ). length (filter isFixed (q .subject ∷ [])) + n) (one-more (q .predicate) (q .object ∷ [])) ∙ sym (add-assoc _ _ _)))
+    (sym (fixed-cons (q .subject) (q .predicate ∷ q .object ∷ []) ∙ ap (λ (n : ℕ). length (filter isFixed (q .subject ∷ [])) + n) (fixed-cons (q .predicate) (q .object ∷ [])) ∙ sym (add-assoc _ _ _)))
 
 pub term-count-spec : {M : Type 1} → statement M
 term-count-spec =

@@ -16,12 +16,12 @@ sub-j : tie.Need-sub-j
 sub-j c = search needs
 
 -- a choice that is not 0
-one-more : (c : tie.Else1) → c .before .before .args .choice ≡ suc (c .before .before .args .choice - 1)
-one-more c = omega arith
+choice-suc : (c : tie.Else1) → c .before .before .args .choice ≡ suc (c .before .before .args .choice - 1)
+choice-suc c = omega arith
 
 returns-2 : tie.Need-returns-2
 returns-2 c =
-    sym (ap (mayChoose _ _ _) (one-more (c .before)) ∙ past-pattern _ _ _ _ (c .before .before .before .pre .1 .counted) (c .if2 .taken))
+    sym (ap (mayChoose _ _ _) (choice-suc (c .before)) ∙ past-pattern _ _ _ _ (c .before .before .before .pre .1 .counted) (c .if2 .taken))
 
 sub-k : tie.Need-sub-k
 sub-k c = search needs
@@ -55,7 +55,7 @@ returns-3 c =
     let r = c .before .before in
     let else = r .before .before .before in
     let s = else .before .before .before in
-    sym (ap (mayChoose _ _ _) (one-more (else .before))
+    sym (ap (mayChoose _ _ _) (choice-suc (else .before))
     ∙ choice-open _ _ _ (s .pre .1 .counted) (s .pre .2) (else .if2 .left) (r .reduced-table .ensures) (c .enum-told .given .1) .0)
 
 returns-4 : tie.Need-returns-4
@@ -63,7 +63,7 @@ returns-4 c =
     let r = c .before .before in
     let else = r .before .before .before in
     let s = else .before .before .before in
-    sym (ap (mayChoose _ _ _) (one-more (else .before))
+    sym (ap (mayChoose _ _ _) (choice-suc (else .before))
     ∙ choice-closed _ _ _ (s .pre .1 .counted) (s .pre .2) (else .if2 .left) (r .reduced-table .ensures) (c .enum-told2 .given .1))
 
 pub may-choose-spec : {M : Type 1} → statement M
