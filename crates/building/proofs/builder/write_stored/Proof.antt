@@ -33,8 +33,9 @@ mul-x-end-2 c = omega (arith, few-semi-joins (few-predicates (c .before .before 
 
 loop-holds : tie.Need-loop-holds Inv-loop μ-loop
 loop-holds c =
-    let a = c .before .before .args in
-    let few = few-predicates (c .before .before .pre .0 .0) in
+    let start = c .before .before in
+    let a = start .args in
+    let few = few-predicates (start .pre .0 .0) in
     (omega arith, few, few-semi-joins few, stored-none (a .t) (a .first) _ (a .store .now))
 
 operands-at-requires : tie.Need-operands-at-requires Inv-loop μ-loop

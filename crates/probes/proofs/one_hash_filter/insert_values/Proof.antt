@@ -49,12 +49,13 @@ loop-less c = omega arith
 
 loop-again : tie.Need-loop-again Inv-loop μ-loop
 loop-again c =
+    let earlier = c .before .before .before in
     let l = c .before .before .loop in
-    let a = c .before .before .before .args in
+    let a = earlier .args in
     let value = getD (a .w .now) (a .start + 2 * l .i + a .column) 0 in (
       omega arith,
       length-set (l .slots) (value % slotCount) 1 ∙ l .inv .1,
-      contains-more (l .slots) (l .inv .1) value (value-more (a .w .now) (a .start) (l .i) (a .column) (c .before .before .before .pre .1) (omega arith)) (l .inv .2),
+      contains-more (l .slots) (l .inv .1) value (value-more (a .w .now) (a .start) (l .i) (a .column) (earlier .pre .1) (omega arith)) (l .inv .2),
     )
 
 returns : tie.Need-returns Inv-loop μ-loop

@@ -26,7 +26,9 @@ mul-if1 : tie.Need-mul-if1
 mul-if1 c = search needs
 
 add-if1 : tie.Need-add-if1
-add-if1 c = omega (arith, c .rows-start .ensures, few-semi-joins (few-predicates (c .before .before .pre .image)), few-predicates (c .before .before .pre .image))
+add-if1 c =
+    let start = c .before .before in
+    omega (arith, c .rows-start .ensures, few-semi-joins (few-predicates (start .pre .image)), few-predicates (start .pre .image))
 
 slice-aggregate-semi-joins-hold-with : tie.Need-slice-aggregate-semi-joins-hold-with
 slice-aggregate-semi-joins-hold-with c = search needs

@@ -104,9 +104,10 @@ loop-again c =
 
 returns-5 : tie.Need-returns-5 Inv-loop μ-loop
 returns-5 c =
+    let start = c .before .before .before .before in
     let inv = c .before .loop .inv in
-    let all : c .before .loop .i ≡ c .before .before .before .before .args .count = omega arith in
-    let proper = all-passed (c .before .before .before .before .args .w .now) _ _ all (inv .4) (inv .5) in
+    let all : c .before .loop .i ≡ start .args .count = omega arith in
+    let proper = all-passed (start .args .w .now) _ _ all (inv .4) (inv .5) in
     rw (proper, inv .3, inv .2, all) refl
 
 pub rows-end-spec : {M : Type 1} → statement M

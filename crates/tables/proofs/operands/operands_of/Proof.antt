@@ -10,7 +10,9 @@ table-entry-requires : tie.Need-table-entry-requires
 table-entry-requires c κs = entry-inside (c .before .pre .0) _ (c .before .pre .1)
 
 table-entry-requires-2 : tie.Need-table-entry-requires-2
-table-entry-requires-2 c κs = entry-inside (c .before .before .pre .0) _ (c .before .before .pre .2)
+table-entry-requires-2 c κs =
+    let start = c .before .before in
+    entry-inside (start .pre .0) _ (start .pre .2)
 
 own-column-requires : tie.Need-own-column-requires
 own-column-requires c κs = search needs
