@@ -1,3 +1,2 @@
-// From a site's bytes to the words of its store.
+// From the image of a site to the words of its store.
 pub mod builder;
-pub mod site_reader;

@@ -4,8 +4,6 @@ ghost use Rattle.model.specs.Calls.{outcome, checked as checkReply, withPlan, b
 ghost use Rattle.model.specs.declared.answer.Answer.the-variants.{Refused};
 ghost use Rattle.closing.specs.Checks.{CheckedAs};
 use building::builder::fill_store;
-use building::site_reader::SiteRead;
-use building::site_reader::read_site;
 use model::answer::Answer;
 use model::answer::Planned;
 use model::plan::Plan;
@@ -16,6 +14,8 @@ use planning::planner::plan_pattern;
 use plans::plan_reader::read_plan;
 use running::counts::none_by_counts;
 use running::runner::run_plan;
+use site_reading::site_reader::SiteRead;
+use site_reading::site_reader::read_site;
 use tables::layout::IMAGE_WORDS;
 use tables::limits::MOST_THRESHOLD;
 use validation::store::is_store;

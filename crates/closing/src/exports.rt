@@ -3,7 +3,7 @@ ghost use Rattle.model.specs.Calls.{seen, seenOf, seenOfPlan, build as buildOut
 use crate::calls::build;
 use crate::calls::plan;
 use crate::calls::run;
-use crate::report::report;
+use reporting::report::report;
 
 // `build` for C: returns 0, or the refusal's number and then neither the store nor the answer is altered.
 #[no_mangle]

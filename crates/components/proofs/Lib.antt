@@ -2,4 +2,3 @@
 pub mod StepComponents
 pub mod StepsHold
 pub mod ComponentSolutions
-pub mod Exchanges

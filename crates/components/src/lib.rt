@@ -1,3 +1,2 @@
-// The connected components of a plan: steps linked by shared variables, put together, and each component asked alone.
-pub mod arranging;
+// The connected components of a plan: steps linked by shared variables, each component asked alone.
 pub mod components;

@@ -1,5 +1,4 @@
 -- Laws that the proofs of this crate cite.
-pub mod PartialCells
 pub mod JoinFrom
 pub mod ScanJoin
 pub mod PlanJoin

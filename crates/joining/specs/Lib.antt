@@ -1,5 +1,2 @@
 -- What the functions of this crate are held to, in terms of the definitions.
-pub mod Cells
-pub mod PhysicalPlan
-pub mod Scans
 pub mod Results

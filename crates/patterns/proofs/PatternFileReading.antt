@@ -20,9 +20,9 @@ use Rattle.model.proofs.Readers.{PartRead, none-read, all-read, next-refused, n
 use Rattle.model.proofs.Patterns.{variables-append, triple-limit}
 use Rattle.model.proofs.PatternFile.{triple-reads}
 use Rattle.model.proofs.Refusals.{pattern-refuses}
-use Rattle.tables.specs.NumberAt.{numberAt}
-use Rattle.tables.specs.declared.number.Number.the-variants.{Value, Bad}
-use Rattle.tables.proofs.NumberReplies.{number-bad, number-value}
+use Rattle.numbers.specs.NumberAt.{numberAt}
+use Rattle.numbers.specs.declared.number.Number.the-variants.{Value, Bad}
+use Rattle.numbers.proofs.NumberReplies.{number-bad, number-value}
 use Rattle.patterns.specs.Members.{noMember, TableOf, EndsOf, EndsHold, PatternHolds}
 use Rattle.patterns.specs.Replies.{MemberReadAs, MemberReadOf, PatternReadAs}
 use Rattle.patterns.specs.declared.pattern.Member.{Member}

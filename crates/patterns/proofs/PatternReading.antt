@@ -15,9 +15,9 @@ use Rattle.model.specs.declared.pattern.TriplePattern.{TriplePattern}
 use Rattle.model.proofs.Readers.{asked}
 use Rattle.model.proofs.PatternFile.{position-asks}
 use Rattle.model.proofs.Patterns.{position-limit}
-use Rattle.tables.specs.NumberAt.{numberAt}
-use Rattle.tables.specs.declared.number.Number.the-variants.{Value, Bad}
-use Rattle.tables.proofs.NumberReplies.{number-bad, number-value}
+use Rattle.numbers.specs.NumberAt.{numberAt}
+use Rattle.numbers.specs.declared.number.Number.the-variants.{Value, Bad}
+use Rattle.numbers.proofs.NumberReplies.{number-bad, number-value}
 use Rattle.catalog.specs.Lookups.{placeOf}
 use Rattle.patterns.specs.Replies.{replied, MemberReadOf}
 use Rattle.catalog.specs.declared.lookup.Found.the-variants.{At, Absent}

@@ -17,9 +17,9 @@ use catalog::lookup::Found;
 use catalog::lookup::predicate_place;
 use model::pattern::Position;
 use model::pattern::TriplePattern;
+use numbers::number::Number;
+use numbers::number::read_number;
 use tables::limits::MOST_TERM;
-use tables::number::Number;
-use tables::number::read_number;
 
 // A triple pattern, the numbers of its subject and object, how many variables there are with it, and the place after it; or the refusal's number.
 pub enum MemberRead {

@@ -18,9 +18,9 @@ use Rattle.model.specs.Calls.{padded, planNumbers}
 use Rattle.model.proofs.Booleans.{and-make}
 use Rattle.model.proofs.Membership.{any-append}
 use Rattle.model.proofs.Blocks.{concatMap-append, length-concatMap}
-use Rattle.tables.specs.NumberAt.{numberAt}
-use Rattle.tables.specs.declared.number.Number.the-variants.{Value, Bad}
-use Rattle.tables.proofs.NumberReplies.{number-bad, number-value}
+use Rattle.numbers.specs.NumberAt.{numberAt}
+use Rattle.numbers.specs.declared.number.Number.the-variants.{Value, Bad}
+use Rattle.numbers.proofs.NumberReplies.{number-bad, number-value}
 
 -- ---- a place that no step has yet
 

@@ -6,9 +6,9 @@ ghost use Rattle.patterns.specs.Members.{patternIn, PatternHolds};
 ghost use Rattle.plans.specs.Replies.{PlanReadAs};
 use crate::choosing::may_choose;
 use model::plan::Plan;
+use numbers::number::Number;
+use numbers::number::read_number;
 use patterns::pattern::Pattern;
-use tables::number::Number;
-use tables::number::read_number;
 
 // What was read of a plan's file: 0 and the plan, or the refusal's number.
 pub struct PlanRead {

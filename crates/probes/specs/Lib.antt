@@ -1,4 +1,3 @@
 -- What the functions of this crate are held to.
 pub mod OneHashFilter
 pub mod Probed
-pub mod StoredRows

@@ -1,5 +1,4 @@
-// Probes, which rows have partners: one value searched, the rows that are left counted, and compared.
-pub mod comparing;
+// Probes, which values have partners: one value searched, the rows that are left counted.
 pub mod counting;
 pub mod one_hash_filter;
 pub mod values;

@@ -22,7 +22,7 @@ use Rattle.model.proofs.PlanFile.{plan-file}
 use Rattle.patterns.proofs.ReplyLaws.{reply-given}
 use Rattle.plans.specs.Replies.{PlanReadAs}
 use Rattle.plans.specs.declared.plan_reader.PlanRead.{PlanRead}
-use Rattle.joining.specs.PhysicalPlan.{stepsOf}
+use Rattle.scanning.specs.PhysicalPlan.{stepsOf}
 use Rattle.running.proofs.StepNumbers.{steps-length, step-at}
 
 -- ---- the steps of a plan's numbers

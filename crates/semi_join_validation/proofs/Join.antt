@@ -11,7 +11,7 @@ use Rattle.model.specs.Site.{Row}
 use Rattle.model.specs.Tables.{isStored}
 use Rattle.model.specs.Store.{Reduced, isStoredTable, storedRows, tableWords}
 use Rattle.model.proofs.Booleans.{and-cases, and-make, not-both, to-false}
-use Rattle.probes.proofs.ComparedRows.{as-many}
+use Rattle.stored_rows.proofs.ComparedRows.{as-many}
 use Rattle.semi_join_validation.specs.Joins.{storedHolds, joinHolds}
 use Rattle.site_validation.specs.declared.entries.Extent.{Extent}
 use Rattle.site_validation.specs.declared.entries.Extent.the-variants.{Ends, Invalid}

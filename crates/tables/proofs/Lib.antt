@@ -1,9 +1,7 @@
 pub mod KindColumns
-pub mod Groups
 pub mod Proper
 pub mod Partners
 pub mod Images
 pub mod Entries
 pub mod Reduced
 pub mod Declared
-pub mod NumberReplies

@@ -1,5 +1,4 @@
 -- What the functions of this crate are held to, in terms of the definitions.
-pub mod NumberAt
 pub mod Columns
 pub mod Entries
 pub mod LeftRows

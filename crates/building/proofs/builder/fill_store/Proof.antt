@@ -12,7 +12,7 @@ use Rattle.tables.specs.SiteWords.{siteIn}
 use Rattle.tables.proofs.Images.{few-predicates, stored-start-limit}
 use Rattle.model.proofs.StoreLayout.{length-layout}
 use Rattle.building.proofs.Front.{FrontIn, front-in, used-limit, store-over}
-use Rattle.building.proofs.Replies.{memory-refused, memory-filled}
+use Rattle.site_reading.proofs.Replies.{memory-refused, memory-filled}
 use Rattle.building.proofs.builder.fill_store.Statement.{statement}
 use Rattle.building.proofs.builder.fill_store.Tie as tie
 

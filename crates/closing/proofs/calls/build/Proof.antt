@@ -5,7 +5,7 @@ use Rattle.model.specs.Reader.{gives}
 use Rattle.model.specs.SiteFile.{readSite}
 use borrow.Author.Needs.{needs}
 use Rattle.tables.specs.SiteWords.{siteIn, ImageOf}
-use Rattle.building.proofs.Replies.{site-refused, site-read, threshold-refused, file-refused, file-given}
+use Rattle.site_reading.proofs.Replies.{site-refused, site-read, threshold-refused, file-refused, file-given}
 use Rattle.closing.proofs.calls.build.Statement.{statement}
 use Rattle.closing.proofs.calls.build.Tie as tie
 

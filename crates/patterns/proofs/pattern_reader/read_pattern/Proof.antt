@@ -10,8 +10,8 @@ use borrow.Author.Tests.{ltb-true, ltb-false, le-leb, lt-leb}
 use Rattle.model.specs.Store.{decoded}
 use Rattle.model.specs.Pattern.{mostTriplePatterns, isPatternLength}
 use Rattle.model.proofs.Booleans.{and-make}
-use Rattle.tables.specs.NumberAt.{numberAt}
-use Rattle.tables.specs.declared.number.Number.the-variants.{Value}
+use Rattle.numbers.specs.NumberAt.{numberAt}
+use Rattle.numbers.specs.declared.number.Number.the-variants.{Value}
 use Rattle.patterns.proofs.PatternFileReading.{MembersRead, no-member-read, every-member, next-member-refused, next-member-read}
 use Rattle.patterns.proofs.PatternFileReading.{no-count, count-refused, triples-refused, bytes-left, returns-refusal, returns-pattern}
 use Rattle.patterns.proofs.pattern_reader.read_pattern.Statement.{statement}

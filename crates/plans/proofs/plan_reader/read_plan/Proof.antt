@@ -18,8 +18,8 @@ use Rattle.model.specs.PlanFile.{step, readPlan}
 use Rattle.model.specs.Calls.{planNumbers}
 use Rattle.model.proofs.Places.{choice-small}
 use Rattle.model.proofs.Readers.{PartRead, none-read, all-read, next-refused, next-read}
-use Rattle.tables.specs.NumberAt.{numberAt}
-use Rattle.tables.specs.declared.number.Number.the-variants.{Value}
+use Rattle.numbers.specs.NumberAt.{numberAt}
+use Rattle.numbers.specs.declared.number.Number.the-variants.{Value}
 use Rattle.patterns.specs.Members.{patternIn}
 use Rattle.patterns.specs.declared.pattern.Pattern.{Pattern as Members}
 use Rattle.patterns.proofs.MemberLaws.{pattern-length}

@@ -1,0 +1,2 @@
+// A number at a place of some bytes.
+pub mod number;

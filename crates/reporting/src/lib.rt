@@ -1,0 +1,2 @@
+// What a caller in C sees of an answer.
+pub mod report;

@@ -1,0 +1,4 @@
+-- What the functions of this crate are held to, in terms of the definitions.
+pub mod Cells
+pub mod PhysicalPlan
+pub mod Scans
