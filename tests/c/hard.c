@@ -1,8 +1,8 @@
 /* Checks that a call must not answer by the product of their tables, at T 0 and at T 1,000. A call that takes it does not end:
- *   - parts that share no variable, seven of them with 512 rows each and one that never matches: None at once, wherever the plan takes the
+ *   - components that share no variable, seven of them with 512 rows each and one that never matches: None at once, wherever the plan takes the
  *     one that never matches. The product is 2^63 rows
- *   - four parts of two steps each, and one chain of eight steps, with one solution: its row, word for word, by the planner's plan and by
- *     plans that take the parts, or steps that are not linked yet, in turns. The product of the steps that come first is 10^12 rows */
+ *   - four components of two steps each, and one chain of eight steps, with one solution: its row, word for word, by the planner's plan and by
+ *     plans that take the components, or steps that are not linked yet, in turns. The product of the steps that come first is 10^12 rows */
 #include "closing.h"
 #include "files.h"
 
@@ -48,7 +48,7 @@ static uint32_t run(const struct file *check, const uint8_t plan[16], uint64_t a
     return closing_run(store, CLOSING_STORE_WORDS, check->byte, check->size, plan, 16, rows, ROW_WORDS, answer);
 }
 
-/* ---- parts without a match */
+/* ---- components without a match */
 
 /* Predicate 1: 512 subjects with the object 1. Predicate 2: (1, 5). */
 static void make_free_site(void) {
@@ -85,7 +85,7 @@ static void make_chain_site(void) {
     put_row(&site, (struct row){CHAIN_ROWS, 9});
 }
 
-/* ?0 1 ?1, ?1 2 9, and so on: places 2i and 2i + 1 are a part. */
+/* ?0 1 ?1, ?1 2 9, and so on: places 2i and 2i + 1 are a component. */
 static void make_parts(struct file *check) {
     begin_check(check);
     for (uint32_t v = 0; v < PATTERNS; v += 2) {

@@ -47,13 +47,13 @@ others-length x (y ∷ ys) h = go (bool-cases (eqb x y)) (others-length x ys (c 
     c : (not (any (eqb y) ys) ≡ true) × (distinct ys ≡ true)
     c = and-cases (not (any (eqb y) ys)) (distinct ys) h
 
-    kept : any (eqb x) ys ≡ false → others x ys ≡ ys
-    kept e = filter-all (λ z. not (eqb x z)) ys (λ z m. ap not (to-false (eqb x z) (λ k. not-both (into-any (eqb x) m k) e)))
+    none-struck : any (eqb x) ys ≡ false → others x ys ≡ ys
+    none-struck e = filter-all (λ z. not (eqb x z)) ys (λ z m. ap not (to-false (eqb x z) (λ k. not-both (into-any (eqb x) m k) e)))
 
     go : (eqb x y ≡ true) ⊎ (eqb x y ≡ false) → length ys ≤ suc (length (others x ys)) → length (y ∷ ys) ≤ suc (length (others x (y ∷ ys)))
     go (inl e) i =
         let q : any (eqb x) ys ≡ false = rw (eqb-true x y e) (not-true (any (eqb y) ys) (c .0)) in
-        rw (e, kept q) (omega arith)
+        rw (e, none-struck q) (omega arith)
     go (inr e) i = rw e (omega arith)
 
 distinct-limit : (n : ℕ) (l : List ℕ) → distinct l ≡ true → ((x : ℕ) → x ∈ l → x < n) → length l ≤ n

@@ -67,7 +67,7 @@ static bool are_among(const uint32_t *stored, size_t left, const uint32_t *row, 
 
 /* Rows whose subject is between two terms stand in a row. */
 static bool holds_between(const uint32_t *store, const uint32_t *entry, const uint32_t *rows, size_t n, struct column of) {
-    const size_t first = first_not_below(rows, 2, n, of.low), end = rows[2 * n - 2] <= of.high ? n : first_not_below(rows, 2, n, of.high + 1);
+    const size_t first = guessed_lower_bound(rows, 2, n, of.low), end = rows[2 * n - 2] <= of.high ? n : guessed_lower_bound(rows, 2, n, of.high + 1);
     return end - first == entry[0] && (entry[1] == 0 || memcmp(store + entry[1], rows + 2 * first, 2 * entry[0] * sizeof *rows) == 0);
 }
 

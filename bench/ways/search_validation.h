@@ -1,7 +1,7 @@
-/* As the engine is: question 10 by ranges, by marks, by walking two columns, and by search. Included by plain.c. */
+/* As the engine is: question 10 by ranges, by filter, by walking two columns, and by search. Included by plain.c. */
 
 static bool search_word(const uint32_t *words, size_t stride, size_t n, uint32_t value) {
-    return words[stride * (n - 1)] >= value && words[stride * words_below(words, stride, n, value)] == value;
+    return words[stride * (n - 1)] >= value && words[stride * lower_bound(words, stride, n, value)] == value;
 }
 
 /* The same: the place is tried first that the value has where terms are numbered in a row. */
@@ -51,7 +51,7 @@ static struct range object_range(const uint32_t *rows, size_t n) {
 /* What all semi-joins are checked by: the range of each column, and the objects that some table's subjects reach, in ascending order. */
 struct sorted { struct range ranges[2 * MOST_PREDICATES]; uint32_t objects[MOST_ROWS]; };
 
-static void measure_columns(const uint32_t *store, size_t count, struct sorted *sorted) {
+static void collect_statistics(const uint32_t *store, size_t count, struct sorted *sorted) {
     for (size_t i = 0; i < count; i++) {
         sorted->ranges[2 * i] = range_of(column_of(store, sorted->objects, count, i, 0));
         sorted->ranges[2 * i + 1] = object_range(store + store[3 + 3 * i + 2], store[3 + 3 * i + 1]);
@@ -77,43 +77,43 @@ static void copy_objects(const uint32_t *store, size_t count, struct sorted *sor
     }
 }
 
-/* A value whose remainder is not marked is none of the values marked. Few values, or those without gaps, are not marked, and then all count
+/* A one-hash filter: a value whose slot is empty is none of those inserted. Few values, or those without gaps, are not inserted, and then all count
  * as such. */
-enum { MARKS = 1024, FEW = 16 };
-struct marks { bool kept; uint8_t mark[MARKS]; };
+enum { SLOTS = 1024, FEW = 16 };
+struct filter { bool used; uint8_t slot[SLOTS]; };
 
-static void mark_values(struct marks *marks, const uint32_t *values, size_t n, const struct range *range) {
-    marks->kept = n >= FEW && !range->whole;
-    if (!marks->kept) return;
-    memset(marks->mark, 0, sizeof marks->mark);
-    for (size_t i = 0; i < n; i++) marks->mark[values[2 * i] % MARKS] = 1;
+static void insert_values(struct filter *filter, const uint32_t *values, size_t n, const struct range *range) {
+    filter->used = n >= FEW && !range->whole;
+    if (!filter->used) return;
+    memset(filter->slot, 0, sizeof filter->slot);
+    for (size_t i = 0; i < n; i++) filter->slot[values[2 * i] % SLOTS] = 1;
 }
 
-static bool is_marked(const struct marks *marks, uint32_t value) { return !marks->kept || marks->mark[value % MARKS] == 1; }
+static bool may_contain(const struct filter *filter, uint32_t value) { return !filter->used || filter->slot[value % SLOTS] == 1; }
 
 /* Whether an ascending column has a value, by a walk from a place before which all words are below it. */
-static bool walk_to(struct column column, const struct marks *marks, size_t *place, uint32_t value) {
-    if (!is_marked(marks, value)) return false;
+static bool walk_to(struct column column, const struct filter *filter, size_t *place, uint32_t value) {
+    if (!may_contain(filter, value)) return false;
     while (*place < column.n && column.words[column.stride * *place] < value) ++*place;
     return *place < column.n && column.words[column.stride * *place] == value;
 }
 
 /* Both ascend, and are walked once. */
-static uint32_t count_common(struct column own, struct column partners, const struct marks *marks) {
+static uint32_t count_common(struct column own, struct column partners, const struct filter *filter) {
     uint32_t kept = 0;
     size_t place = 0;
     for (size_t i = 0; i < own.n; i++)
-        if (walk_to(partners, marks, &place, own.words[own.stride * i])) kept++;
+        if (walk_to(partners, filter, &place, own.words[own.stride * i])) kept++;
     return kept;
 }
 
 /* Subjects ascend and are walked, for objects each partner is searched. */
-static bool compare_partnered(const uint32_t *rows, size_t m, size_t own, struct column partners, const struct marks *marks, const uint32_t *next,
+static bool compare_partnered(const uint32_t *rows, size_t m, size_t own, struct column partners, const struct filter *filter, const uint32_t *next,
                               const uint32_t *end) {
     size_t place = 0;
     for (const uint32_t *row = rows; row != rows + 2 * m; row += 2) {
-        if (own == 0 ? !walk_to(partners, marks, &place, row[0])
-                     : !is_marked(marks, row[1]) || !has_word(partners.words, partners.stride, partners.n, row[1]))
+        if (own == 0 ? !walk_to(partners, filter, &place, row[0])
+                     : !may_contain(filter, row[1]) || !has_word(partners.words, partners.stride, partners.n, row[1]))
             continue;
         if (next == end || next[0] != row[0] || next[1] != row[1]) return false;
         next += 2;
@@ -123,10 +123,10 @@ static bool compare_partnered(const uint32_t *rows, size_t m, size_t own, struct
 
 /* All are left where the one range is within the other and that has no gaps; columns that are apart do not come here. */
 static uint32_t count_partnered(struct column own, struct column partners, const uint32_t *values, const struct range *a, const struct range *b) {
-    struct marks marks;
+    struct filter filter;
     if (b->whole && b->lowest <= a->lowest && a->highest <= b->highest) return (uint32_t)own.n;
-    mark_values(&marks, values, partners.n, b);
-    return count_common(own, partners, &marks);
+    insert_values(&filter, values, partners.n, b);
+    return count_common(own, partners, &filter);
 }
 
 /* Where the stored rows of the semi-join of kind k of p against q end, if they begin at `here`; 0 where they or its entry are wrong. */
@@ -140,10 +140,10 @@ static size_t semi_join_end(const uint32_t *store, const struct sorted *sorted, 
     const struct column partners = column_of(store, sorted->objects, count, q, other);
     const uint32_t *values = store + store[3 + 3 * q + 2] + other;
     if (is_stored(store[1], entry[0], (uint32_t)m)) {
-        struct marks marks;
+        struct filter filter;
         if (entry[1] != here || end > used) return 0;
-        mark_values(&marks, values, partners.n, b);
-        return compare_partnered(rows, m, own, partners, &marks, store + here, store + end) ? end : 0;
+        insert_values(&filter, values, partners.n, b);
+        return compare_partnered(rows, m, own, partners, &filter, store + here, store + end) ? end : 0;
     }
     return entry[1] == 0 && count_partnered(column_of(store, sorted->objects, count, p, own), partners, values, a, b) == entry[0] ? here : 0;
 }
@@ -161,7 +161,7 @@ static bool is_empty_pair(const uint32_t *store, const struct sorted *sorted, si
 static bool site_holds(const uint32_t *store, size_t count, size_t here, size_t used) {
     struct sorted sorted;
     if (!tables_proper(store, count)) return false;
-    measure_columns(store, count, &sorted);
+    collect_statistics(store, count, &sorted);
     copy_objects(store, count, &sorted);
     for (size_t p = 0; p < count; p++)
         for (size_t q = 0; q < count; q++) {
