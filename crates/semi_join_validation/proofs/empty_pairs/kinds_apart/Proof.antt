@@ -5,7 +5,8 @@ use mathlib.Core.Path.{_≡_, sym, _∙_}
 use mathlib.Core.Bool.{true}
 use borrow.Author.Count.{below-more}
 use borrow.Author.Tests.{not-true, not-false}
-use Rattle.model.specs.Tables.{kindCount}
+use Rattle.model.specs.Tables.{kindCount, kindAt}
+use Rattle.tables.specs.Columns.{columnNumber}
 use Rattle.model.proofs.Booleans.{not-both, to-false}
 use Rattle.statistics.proofs.ComparedColumns.{number-of}
 use Rattle.semi_join_validation.proofs.EmptyPairs.{kindApart, kinds-apart, kind-apart}
@@ -24,10 +25,13 @@ answer : (c : tie.After-columns-apart Inv-loop μ-loop) → let l = c .before .b
     kindApart (a .ranges .now) (a .p) (a .q) (l .loop .k) ≡ c .columns-apart .result
 answer c =
     let b = c .before in
-    let partner = b .before .partner-column .ensures in
+    let partner = b .before .partner-column in
     let a = b .before .before in
-    let own = a .before .own-column .ensures in
-    rw (number-of _ (own .0) (own .1), number-of _ (partner .0) (partner .1), sym (a .range-at .ensures), sym (b .range-at2 .ensures)) (sym (c .columns-apart .ensures))
+    let own = a .before .own-column in
+    let k = a .before .before .before .loop .k in
+    let mine : columnNumber (kindAt k .0) ≡ own .result = number-of _ (own .ensures .0) (own .ensures .1) in
+    let theirs : columnNumber (kindAt k .1) ≡ partner .result = number-of _ (partner .ensures .0) (partner .ensures .1) in
+    rw (mine, theirs, sym (a .range-at .ensures), sym (b .range-at2 .ensures)) (sym (c .columns-apart .ensures))
 
 loop-holds : tie.Need-loop-holds Inv-loop μ-loop
 loop-holds c = λ j h. absurd (omega arith)
