@@ -5,7 +5,6 @@ use native.Mathlib.Numerals.{add-one}
 use native.Mathlib.Omega.{arith}
 use mathlib.Core.Path.{_≡_, refl, ap, _∙_}
 use mathlib.Core.Bool.{Bool, true, false, cond}
-use mathlib.Core.Option.{none, some}
 use mathlib.Core.List.{List, [], _∷_}
 use lib.ListN.{length, getD, take, drop, length-take, length-drop, List·getD-append}
 use lib.Seq.{drop-cons, drop-length}
@@ -13,7 +12,7 @@ use lib.Dec.{eqb, ltb}
 use borrow.Author.Tests.{ltb-true, eqb-true, eq-eqb, ne-eqb}
 use Rattle.model.specs.Site.{Row, Site, isSite, isDeclared, noTable, tableAt, mostPredicates}
 use Rattle.model.specs.Tables.{kindCount, isStored, mostThreshold}
-use Rattle.model.specs.Store.{tableWords, rowsStart, vpEntryAt, semiJoinEntryAt, layout, wordsUsed, Holds, decoded, isStoreOf, storeOf}
+use Rattle.model.specs.Store.{tableWords, rowsStart, vpEntryAt, semiJoinEntryAt, layout, wordsUsed, Holds, decoded}
 use Rattle.model.proofs.Booleans.{and-cases}
 use Rattle.model.proofs.Membership.{at-place, into-any}
 use Rattle.model.proofs.Partition.{proper}
@@ -80,11 +79,7 @@ absent-from k (t ∷ ts) p e = go (eqb (t .predicate) p) refl e (λ h. absent-fr
 pub place-absent : (site : Site) (p : ℕ) → placeOf site p ≡ Absent → isDeclared site p ≡ false
 place-absent site p e = absent-from 0 site p e
 
--- ---- question 10
-
-pub not-validated : (w : List ℕ) → isStoreOf (decoded w) w ≡ false → storeOf w ≡ none
-unfolding storeOf
-not-validated w e = rw e refl
+-- ---- a store that is validated
 
 -- the entry of a semi-join of p predicates stands before the rows
 join-before-rows : (p i j k : ℕ) → i < p → j < p → k < kindCount → semiJoinEntryAt p i j k + 2 ≤ rowsStart p
@@ -102,10 +97,6 @@ taken-inside l start n some-words e = let taken = length-take n (drop start l) i
 module _ (w : List ℕ) (validated : Validated w) where
   held : Holds w (thresholdOf w) (siteOf w)
   held = store-holds w validated
-
-  pub validated-store : storeOf w ≡ some (decoded w)
-  unfolding storeOf
-  validated-store = rw validated refl
 
   pub validated-site : isSite (siteOf w) ≡ true
   validated-site = held .proper
