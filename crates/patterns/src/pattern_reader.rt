@@ -79,7 +79,6 @@ fn read_member(w: &[u32], s: &[u8], at: usize, met: u32) -> MemberRead
 // What was read of a pattern's file: 0, the pattern and the numbers of its subjects and objects, or the refusal's number. The numbers stand
 // beside the pattern, since it is copied where they are not asked for.
 pub struct PatternRead {
-    // First, where it is aligned: a plan copies it, and was a fiftieth slower with it behind the number.
     pub pattern: Pattern,
     pub subjects: [u32; 8],
     pub objects: [u32; 8],
