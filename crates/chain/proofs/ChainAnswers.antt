@@ -12,7 +12,7 @@ use Rattle.model.specs.declared.answer.Answer.{Answer}
 use Rattle.model.specs.declared.answer.Answer.the-variants.{None}
 use Rattle.model.specs.declared.answer.Planned.{Planned}
 use Rattle.model.proofs.Booleans.{and-make}
-use Rattle.model.proofs.Demands.{chain-none-is-whole}
+use Rattle.model.proofs.Demands.Answers.{chain-none-is-whole}
 
 module _ (words check memory : List ℕ) {o : Planned} (planned : o ≡ plan words check) where
   pub plan-refused : isRefused (o .answer) ≡ true → outcome (o .answer) memory ≡ planAndRun words check memory

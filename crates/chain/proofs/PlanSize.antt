@@ -15,7 +15,7 @@ use Rattle.model.proofs.Patterns.{pattern-limit}
 use Rattle.model.proofs.PatternFile.{pattern-accepted}
 use Rattle.model.proofs.ProperPlan.{planned-length}
 use Rattle.model.specs.Answers.{PlanCallAnswer}
-use Rattle.model.proofs.Demands.{demand-1-plan}
+use Rattle.model.proofs.Demands.Answers.{demand-1-plan}
 
 pub record Sized (o : Planned) : Type 0 where
   pub few : o .plan .count ≤ mostTriplePatterns

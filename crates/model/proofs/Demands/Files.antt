@@ -1,0 +1,49 @@
+-- The files: each is read to its last byte, and is what is written for what was read.
+use Prim.Native.Nat.{ℕ, _<_}
+use native.Mathlib.Omega.{arith}
+use mathlib.Core.Path.{_≡_}
+use mathlib.Core.Bool.{true}
+use mathlib.Core.List.{List}
+use lib.ListN.{length}
+use Rattle.model.specs.Reader.{gives}
+use Rattle.model.specs.Numbers.{areBytes}
+use Rattle.model.specs.Site.{Site, isSite}
+use Rattle.model.specs.SiteFile.{readSite, siteBytes}
+use Rattle.model.specs.Store.{Store}
+use Rattle.model.specs.Pattern.{Pattern, isAccepted}
+use Rattle.model.specs.PatternFile.{readPattern, patternBytes}
+use Rattle.model.specs.Plan.{isProper}
+use Rattle.model.specs.PlanFile.{readPlan, planBytes}
+use Rattle.model.proofs.Patterns.{pattern-limit}
+use Rattle.model.proofs.Readers.{FileIsExact}
+use Rattle.model.proofs.SiteFile.{site-file}
+use Rattle.model.proofs.PatternFile.{pattern-accepted, pattern-file}
+use Rattle.model.proofs.PlanFile.{plan-file}
+use Rattle.model.proofs.FileSizes.{site-size, pattern-size}
+
+-- ==== The files: what is read is proper; what is written is bytes, and reading it gives it back; an accepted file is what is written
+-- for what was read, so no byte goes unread and no file is refused that should not be
+
+abbrev pub Files-Are-Exact : Type 0
+Files-Are-Exact =
+    FileIsExact readSite siteBytes isSite
+    × ((site : Site) → FileIsExact (readPattern site) patternBytes (isAccepted site))
+    × ((store : Store) (pattern : Pattern) → isAccepted (store .site) pattern ≡ true
+    → FileIsExact (readPlan store pattern) planBytes (isProper store pattern))
+
+pub files-are-exact : Files-Are-Exact
+files-are-exact = (site-file, pattern-file, λ store pattern accepted. plan-file store pattern (pattern-limit (store .site) pattern accepted))
+
+-- an accepted site has fewer than 8,192 bytes and an accepted check fewer than 128, the sizes of the check program's buffers: so a file
+-- that is cut there is refused, and one that is accepted was read to its end
+abbrev pub Files-Are-Short : Type 0
+Files-Are-Short =
+    ((bytes : List ℕ) (site : Site) → areBytes bytes ≡ true → readSite bytes ≡ gives site → length bytes < 8192)
+    × ((site : Site) (bytes : List ℕ) (pattern : Pattern) → areBytes bytes ≡ true → readPattern site bytes ≡ gives pattern → length bytes < 128)
+
+pub files-are-short : Files-Are-Short
+files-are-short = (
+  (λ bytes site e h. rw (site-file .2 bytes site e h) (omega (arith, site-size site (site-file .0 bytes site h)))),
+  λ site bytes pattern e h.
+      rw (pattern-file site .2 bytes pattern e h) (omega (arith, pattern-size pattern (pattern-limit site pattern (pattern-accepted site bytes pattern h)))),
+)
