@@ -3,26 +3,27 @@
 use Prim.Native.Nat.{ℕ, zero, suc, _*_, _≤_, _<_}
 use native.Mathlib.Omega.{arith}
 use mathlib.Core.Path.{_≡_, refl, sym, ap, _∙_}
-use mathlib.Core.Bool.{Bool, true, false, cond}
+use mathlib.Core.Bool.{true}
 use mathlib.Core.List.{List, [], _∷_, _++_}
 use lib.ListN.{length, take, drop, replicate, length-replicate}
-use lib.Dec.{leb, eqb}
-use borrow.Author.Tests.{ltb-true, lt-ltb, le-leb, eqb-true}
+use lib.Dec.{eqb}
+use borrow.Author.Tests.{ltb-true, lt-ltb, eqb-true}
 use Rattle.model.specs.Lists.{all, concatMap}
 use Rattle.model.specs.Numbers.{bytesWithin, numberBytes}
-use Rattle.model.specs.Reader.{gives}
+use Rattle.model.specs.Reader.{refused, gives}
 use Rattle.model.specs.Site.{Site}
 use Rattle.model.specs.SiteFile.{readSite}
 use Rattle.model.specs.Store.{Store, storeAt, layout, Holds}
-use Rattle.model.specs.Pattern.{Pattern, mostTriplePatterns, width, isAccepted}
+use Rattle.model.specs.Pattern.{Pattern, mostTriplePatterns, width}
 use Rattle.model.specs.PatternFile.{readPattern}
 use Rattle.model.specs.Plan.{Plan, isPlace, isStep, mayChoose, isProper}
 use Rattle.model.specs.PlanFile.{stepNumbers, planBytes}
 use Rattle.model.specs.Planner.{planned}
 use Rattle.model.specs.Solutions.{solutions}
-use Rattle.model.specs.Calls.{outcome, either, build, checked, planNumbers, plan, noneByCounts, rowsOutcome, run}
+use Rattle.model.specs.Calls.{Outcome, outcome, either, build, checked, planNumbers, plan, rowsOutcome}
 use Rattle.model.specs.Chain.{chainThreshold, chainStoreWords, isRefused, unlessRefused, stepBytes, planAndRun, chain}
-use Rattle.model.specs.declared.answer.Answer.the-variants.{None}
+use Rattle.model.specs.declared.answer.Answer.{Answer}
+use Rattle.model.specs.declared.answer.Answer.the-variants.{Refused}
 use Rattle.model.proofs.Booleans.{and-cases}
 use Rattle.model.proofs.Patterns.{pattern-limit}
 use Rattle.model.proofs.Places.{choice-small}
@@ -31,7 +32,7 @@ use Rattle.model.proofs.PatternFile.{pattern-accepted}
 use Rattle.model.proofs.PlanFile.{plan-file}
 use Rattle.model.proofs.Stores.{store-complete, built-holds}
 use Rattle.model.proofs.ProperPlan.{planned-proper}
-use Rattle.model.proofs.Calls.{none-by-counts}
+use Rattle.model.proofs.Success.{build-succeeds, plan-succeeds, run-succeeds}
 
 -- ---- the numbers of a proper plan are its bytes
 
@@ -71,36 +72,42 @@ module _ (store : Store) (pattern : Pattern) (few : length pattern ≤ mostTripl
 
 -- ---- the chain
 
-module _ (site : Site) (check memory : List ℕ) (pattern : Pattern) (read : readPattern site check ≡ gives pattern) where
-  accepted : isAccepted site pattern ≡ true
-  accepted = pattern-accepted site check pattern read
+-- what a refusal is, whatever would come next
+refused-chain : (n : ℕ) (memory : List ℕ) (next : Outcome) (answer : Answer) → answer ≡ Refused n → unlessRefused answer memory next ≡ outcome (Refused n) memory
+unfolding isRefused
+refused-chain n memory next answer e = rw e refl
 
-  by-counts : (b : Bool) → noneByCounts site pattern ≡ b
-      → cond b (outcome None memory) (rowsOutcome (width pattern) (solutions site pattern) memory) ≡ rowsOutcome (width pattern) (solutions site pattern) memory
-  unfolding rowsOutcome
-  by-counts true e = rw (none-by-counts site pattern accepted e) refl
-  by-counts false e = refl
+-- a refused build is the chain's answer
+pub chain-build-refused : (file check memory : List ℕ) (n : ℕ) → build chainThreshold file (replicate chainStoreWords 0) .answer ≡ Refused n
+    → chain file check memory ≡ outcome (Refused n) memory
+unfolding chain
+chain-build-refused file check memory n e = refused-chain n memory _ _ e
 
-  store-runs : (t : ℕ) (words : List ℕ) → Holds words t site → planAndRun words check memory ≡ rowsOutcome (width pattern) (solutions site pattern) memory
-  unfolding planAndRun isRefused checked plan run either
-  store-runs t words holds =
-      let store = storeAt t site in
-      let decodes = store-complete words t site holds in
-      let few = pattern-limit site pattern accepted in
+module _ (file check memory : List ℕ) (site : Site) (whole : readSite file ≡ gives site) (fits : length (layout chainThreshold site) ≤ chainStoreWords) where
+  -- over the store of a site that was read and fits
+  over-built : (o : Outcome) → ((words : List ℕ) → Holds words chainThreshold site → planAndRun words check memory ≡ o) → chain file check memory ≡ o
+  unfolding chain isRefused
+  over-built o next = go (replicate chainStoreWords 0) (length-replicate {A = ℕ} chainStoreWords 0)
+    where
+      go : (own : List ℕ) → length own ≡ chainStoreWords
+          → unlessRefused (build chainThreshold file own .answer) memory (planAndRun (build chainThreshold file own .memory) check memory) ≡ o
+      go own l =
+          rw (build-succeeds chainThreshold file own site (omega arith) whole (rw l fits))
+          (next _ (built-holds chainThreshold site (drop (length (layout chainThreshold site)) own) (omega arith) (site-file .0 file site whole)))
+
+  -- so is a refused plan
+  pub chain-plan-refused : (n : ℕ) → readPattern site check ≡ refused n → chain file check memory ≡ outcome (Refused n) memory
+  unfolding planAndRun plan checked either
+  chain-plan-refused n e = over-built (outcome (Refused n) memory) λ words holds.
+      refused-chain n memory _ _ (rw (store-complete words chainThreshold site holds, e) refl)
+
+  pub chain-solutions : (pattern : Pattern) → readPattern site check ≡ gives pattern
+      → chain file check memory ≡ rowsOutcome (width pattern) (solutions site pattern) memory
+  unfolding planAndRun isRefused
+  chain-solutions pattern read = over-built (rowsOutcome (width pattern) (solutions site pattern) memory) λ words holds.
+      let store = storeAt chainThreshold site in
+      let few = pattern-limit site pattern (pattern-accepted site check pattern read) in
       let proper = planned-proper store pattern in
       let back = plan-file store pattern few .1 (planned store pattern) proper .1 in
-      rw (decodes, read, proper-bytes store pattern few (planned store pattern) proper, back) (by-counts (noneByCounts site pattern) refl)
-
-pub chain-solutions : (file check memory : List ℕ) (site : Site) (pattern : Pattern) → readSite file ≡ gives site
-    → length (layout chainThreshold site) ≤ chainStoreWords → readPattern site check ≡ gives pattern
-    → chain file check memory ≡ rowsOutcome (width pattern) (solutions site pattern) memory
-unfolding chain isRefused build either
-chain-solutions file check memory site pattern whole fits read = go (replicate chainStoreWords 0) (length-replicate {A = ℕ} chainStoreWords 0)
-  where
-    go : (own : List ℕ) → length own ≡ chainStoreWords
-        → unlessRefused (build chainThreshold file own .answer) memory (planAndRun (build chainThreshold file own .memory) check memory)
-        ≡ rowsOutcome (width pattern) (solutions site pattern) memory
-    go own l =
-        let room : leb (length (layout chainThreshold site)) (length own) ≡ true = le-leb (length (layout chainThreshold site)) (length own) (rw l fits) in
-        let holds = built-holds chainThreshold site (drop (length (layout chainThreshold site)) own) (omega arith) (site-file .0 file site whole) in
-        rw (whole, room) (store-runs site check memory pattern read chainThreshold _ holds)
+      rw (plan-succeeds words check chainThreshold site pattern holds read, proper-bytes store pattern few (planned store pattern) proper)
+      (run-succeeds words check chainThreshold site pattern holds read (planBytes (planned store pattern)) memory (planned store pattern) back)

@@ -32,6 +32,7 @@ pub mod ProperPlan
 pub mod Refusals
 pub mod Width
 pub mod Calls
+pub mod Success
 pub mod Cases
 pub mod ChainRows
 pub mod Answers

@@ -1,23 +1,30 @@
 -- Demand 1 and the rule before the demands: what each call may answer, and of what 'none' may be said.
-use Prim.Native.Nat.{ℕ, _≤_}
-use mathlib.Core.Path.{_≡_}
+use Prim.Native.Nat.{ℕ, _*_, _≤_}
+use mathlib.Core.Path.{_≡_, refl}
 use mathlib.Core.Bool.{true}
-use mathlib.Core.List.{List}
-use lib.ListN.{length}
-use Rattle.model.specs.Reader.{gives}
+use mathlib.Core.List.{List, []}
+use lib.ListN.{length, getD, take, drop, replicate}
+use lib.Seq.{take-append-seam}
+use Rattle.model.specs.Lists.{concatMap}
+use Rattle.model.specs.Reader.{refused, gives}
 use Rattle.model.specs.Numbers.{areBytes}
 use Rattle.model.specs.Site.{Site}
 use Rattle.model.specs.SiteFile.{readSite}
-use Rattle.model.specs.Store.{layout}
+use Rattle.model.specs.Store.{layout, Holds, storeAt}
 use Rattle.model.specs.Pattern.{Pattern, width}
 use Rattle.model.specs.PatternFile.{readPattern}
+use Rattle.model.specs.Plan.{Plan}
+use Rattle.model.specs.PlanFile.{readPlan}
+use Rattle.model.specs.Planner.{planned}
 use Rattle.model.specs.Solutions.{IsSolution, solutions}
-use Rattle.model.specs.Calls.{build, plan, rowsOutcome, run}
+use Rattle.model.specs.Calls.{outcome, over, build, withPlan, plan, rowsOutcome, run}
 use Rattle.model.specs.Answers.{BuildAnswer, Accepted, PlanCallAnswer, RunAnswer}
 use Rattle.model.specs.Chain.{chainThreshold, chainStoreWords, chain, NoMatch}
-use Rattle.model.specs.declared.answer.Answer.the-variants.{None}
+use Rattle.model.specs.declared.answer.Answer.the-variants.{Rows, None, Built, Refused}
+use Rattle.model.specs.declared.answer.Answer.the-variants.{Plan as PlanAnswer}
 use Rattle.model.proofs.Answers.{build-answers, plan-answers, run-answers, run-none, chain-none}
-use Rattle.model.proofs.ChainRows.{chain-solutions}
+use Rattle.model.proofs.Success.{build-succeeds, plan-succeeds, run-succeeds, rows-fit, over-later, over-length}
+use Rattle.model.proofs.ChainRows.{chain-solutions, chain-build-refused, chain-plan-refused}
 
 -- ==== Demand 1. Each call, on all bytes and words whatsoever, answers with what it was called for (tables, a plan, rows or none) or
 -- with a refusal and its number from the list; a refusal leaves all lent memory unaltered.
@@ -42,6 +49,60 @@ Run-Answers = (words bytes steps memory : List ℕ) → RunAnswer words bytes me
 
 pub demand-1-run : Run-Answers
 demand-1-run = run-answers
+
+-- Each of these says "a refusal, or ..", which an engine that refuses everything meets. So: where every question is passed, each call
+-- answers with what it was called for.
+
+-- T is at most 1,000, the file reads as a site, and the lent store holds the words needed: Built, and the words over the memory
+abbrev pub Build-Succeeds : Type 0
+Build-Succeeds =
+    (t : ℕ) (bytes memory : List ℕ) (site : Site) → t ≤ 1000 → readSite bytes ≡ gives site → length (layout t site) ≤ length memory
+    → build t bytes memory ≡ outcome (Built (length (layout t site))) (over (layout t site) memory)
+
+pub demand-1-built : Build-Succeeds
+demand-1-built = build-succeeds
+
+-- a store, and a pattern that is accepted on its site: Plan, and the planner's steps
+abbrev pub Plan-Succeeds : Type 0
+Plan-Succeeds =
+    (words bytes : List ℕ) (t : ℕ) (site : Site) (pattern : Pattern) → Holds words t site → readPattern site bytes ≡ gives pattern
+    → plan words bytes ≡ withPlan PlanAnswer (planned (storeAt t site) pattern)
+
+pub demand-1-planned : Plan-Succeeds
+demand-1-planned = plan-succeeds
+
+-- a store of any T, a pattern that is accepted, and any proper plan given: the rows are those of the solutions
+abbrev pub Run-Succeeds : Type 0
+Run-Succeeds =
+    (words bytes steps memory : List ℕ) (t : ℕ) (site : Site) (pattern : Pattern) (given : Plan)
+    → Holds words t site → readPattern site bytes ≡ gives pattern → readPlan (storeAt t site) pattern steps ≡ gives given
+    → run words bytes steps memory ≡ rowsOutcome (width pattern) (solutions site pattern) memory
+
+pub demand-1-ran : Run-Succeeds
+demand-1-ran words bytes steps memory t site pattern given holds read = run-succeeds words bytes t site pattern holds read steps memory given
+
+-- no row: None, and all words keep their content; rows that fit: Rows (their count, width V), and the rows' words over the memory
+abbrev pub Rows-Answer : Type 0
+Rows-Answer =
+    (v : ℕ) (memory : List ℕ)
+    → (rowsOutcome v [] memory ≡ outcome None memory)
+    × ((rows : List (List ℕ)) → 1 ≤ length rows → length rows * v ≤ length memory
+    → rowsOutcome v rows memory ≡ outcome (Rows (length rows) v) (over (concatMap (λ row. row) rows) memory))
+
+pub rows-answer : Rows-Answer
+unfolding rowsOutcome
+rows-answer v memory = (refl, λ rows. rows-fit v rows memory)
+
+-- words over a memory: they are its first, each word past them keeps its content, and its length is as before if they fit
+abbrev pub Words-Over : Type 0
+Words-Over =
+    (words memory : List ℕ)
+    → (take (length words) (over words memory) ≡ words)
+    × ((i : ℕ) → length words ≤ i → getD (over words memory) i 0 ≡ getD memory i 0)
+    × (length words ≤ length memory → length (over words memory) ≡ length memory)
+
+pub words-over : Words-Over
+words-over words memory = (take-append-seam words (drop (length words) memory), over-later words memory, over-length words memory)
 
 -- ==== The rule before the demands. 'none' may be said only of a site that was read whole and only where the whole site holds no match.
 
@@ -68,4 +129,23 @@ Chain-Answers-Solutions =
     → chain file check memory ≡ rowsOutcome (width pattern) (solutions site pattern) memory
 
 pub chain-answers-solutions : Chain-Answers-Solutions
-chain-answers-solutions = chain-solutions
+chain-answers-solutions file check memory site pattern whole fits = chain-solutions file check memory site whole fits pattern
+
+-- A refused build is the chain's answer, and the memory is as it was.
+abbrev pub Chain-Keeps-Build-Refusal : Type 0
+Chain-Keeps-Build-Refusal =
+    (file check memory : List ℕ) (n : ℕ) → build chainThreshold file (replicate chainStoreWords 0) .answer ≡ Refused n
+    → chain file check memory ≡ outcome (Refused n) memory
+
+pub chain-keeps-build-refusal : Chain-Keeps-Build-Refusal
+chain-keeps-build-refusal = chain-build-refused
+
+-- So is a refused plan: of a site that was read and fits, the number with which the check is refused.
+abbrev pub Chain-Keeps-Plan-Refusal : Type 0
+Chain-Keeps-Plan-Refusal =
+    (file check memory : List ℕ) (site : Site) (n : ℕ)
+    → readSite file ≡ gives site → length (layout chainThreshold site) ≤ chainStoreWords → readPattern site check ≡ refused n
+    → chain file check memory ≡ outcome (Refused n) memory
+
+pub chain-keeps-plan-refusal : Chain-Keeps-Plan-Refusal
+chain-keeps-plan-refusal file check memory site n whole fits = chain-plan-refused file check memory site whole fits n
