@@ -8,7 +8,7 @@ use lib.ListN.{length, getD, drop, length-append, length-drop}
 use lib.Seq.{getD-append-add, getD-drop}
 use borrow.Author.Tests.{le-leb}
 use Rattle.model.specs.Lists.{concatMap}
-use Rattle.model.specs.Reader.{gives}
+use Rattle.model.specs.Reader.{refused, gives}
 use Rattle.model.specs.Site.{Site}
 use Rattle.model.specs.SiteFile.{readSite}
 use Rattle.model.specs.Tables.{mostThreshold}
@@ -20,7 +20,7 @@ use Rattle.model.specs.PlanFile.{readPlan}
 use Rattle.model.specs.Planner.{planned}
 use Rattle.model.specs.Solutions.{solutions}
 use Rattle.model.specs.Calls.{outcome, over, either, build, checkOf, checked, withPlan, plan, noneByCounts, rowsOutcome, run}
-use Rattle.model.specs.declared.answer.Answer.the-variants.{Rows, None, Built}
+use Rattle.model.specs.declared.answer.Answer.the-variants.{Rows, None, Built, Refused}
 use Rattle.model.specs.declared.answer.Answer.the-variants.{Plan as PlanAnswer}
 use Rattle.model.proofs.Stores.{store-complete}
 use Rattle.model.proofs.PatternFile.{pattern-accepted}
@@ -55,6 +55,12 @@ module _ (words bytes : List ℕ) (t : ℕ) (site : Site) (pattern : Pattern) (h
       → run words bytes steps memory ≡ rowsOutcome (width pattern) (solutions site pattern) memory
   unfolding run either
   run-succeeds steps memory given proper = rw (check-succeeds, proper) (counted memory (noneByCounts site pattern) refl)
+
+  -- the plan is asked before the counts
+  pub run-refused : (steps memory : List ℕ) (n : ℕ) → readPlan (storeAt t site) pattern steps ≡ refused n
+      → run words bytes steps memory ≡ outcome (Refused n) memory
+  unfolding run either
+  run-refused steps memory n e = rw (check-succeeds, e) refl
 
 -- ---- rows
 
