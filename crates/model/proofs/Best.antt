@@ -26,7 +26,7 @@ ByKey Before key Next = λ x y. Before (key x) (key y) ⊎ ((key x ≡ key y) ×
 abbrev pub Fewest : (ℕ → ℕ) → Relation → Relation
 Fewest = ByKey (λ a b. a < b)
 
-abbrev pub Most : (ℕ → ℕ) → Relation → Relation
+abbrev Most : (ℕ → ℕ) → Relation → Relation
 Most = ByKey (λ a b. b < a)
 
 abbrev pub Lowest : Relation

@@ -13,11 +13,11 @@ use Rattle.model.specs.Lists.{_∈_, filter, ascends}
 use Rattle.model.specs.Store.{Store}
 use Rattle.model.specs.Pattern.{Pattern, places}
 use Rattle.model.specs.Plan.{placesOf}
-use Rattle.model.specs.Planner.{isJoined, termCount, chosenRows, beats, orElse, competitors, bestOf, without, pick, order, planned}
+use Rattle.model.specs.Planner.{isJoined, termCount, chosenRows, beats, orElse, competitors, bestOf, without, pick, order, planned, Competes, Precedes}
 use Rattle.model.proofs.Booleans.{not-both, to-false}
 use Rattle.model.proofs.Membership.{no-element, at-place, from-filter, into-filter, filter-all}
 use Rattle.model.proofs.Order.{numbers, first-before, ascends-tail, ascends-filter}
-use Rattle.model.proofs.Best.{Relation, Fewest, Most, Lowest, Decides, fewest, most, IsFirst, best-of-first}
+use Rattle.model.proofs.Best.{Relation, Decides, fewest, most, IsFirst, best-of-first}
 use Rattle.model.proofs.Below.{length-countUp, countUp-ascends}
 
 -- ---- one taken away
@@ -34,14 +34,6 @@ length-without {i} (x ∷ xs) e (List·Memᴰ·tail m) =
     rw (ne-eqb x i (omega arith)) (ap suc (length-without xs (ascends-tail ltb numbers x xs e) m))
 
 -- ---- what is said
-
--- i comes before j: most terms, then fewest rows, then lowest place
-abbrev pub Precedes : Store → Pattern → List ℕ → Relation
-Precedes store pattern taken = Most (termCount pattern taken) (Fewest (chosenRows store pattern) Lowest)
-
--- while some remaining place shares a variable with those taken, only such ones compete; else all do
-abbrev pub Competes : Pattern → List ℕ → List ℕ → ℕ → Type 0
-Competes pattern taken remaining i = (isJoined pattern taken i ≡ true) ⊎ ((j : ℕ) → j ∈ remaining → isJoined pattern taken j ≡ false)
 
 -- a competitor that no competitor beats
 pub record Picked (store : Store) (pattern : Pattern) (taken remaining : List ℕ) (i : ℕ) : Type 0 where

@@ -10,6 +10,7 @@ use borrow.Author.Tests.{ltb-true, leb-true, eqb-true, eqb-false, eq-eqb, ne-eqb
 use Rattle.model.specs.Lists.{concatMap}
 use Rattle.model.specs.Reader.{gives, after, ask}
 use Rattle.model.specs.Numbers.{areBytes, mostTerm, isTerm, numberBytes, numberLimit}
+use Rattle.model.specs.Files.{FileIsExact}
 use Rattle.model.specs.Site.{Site, isDeclared}
 use Rattle.model.specs.Pattern.{Pattern, mostTriplePatterns, mostVariables, positions, variables, width, isPosition, isPredicate, isTriplePattern, areTriplePatterns, isPatternLength, isAccepted}
 use Rattle.model.specs.PatternFile.{positionOf, askPosition, askPredicate, triplePattern, patternFile, readPattern, positionNumber, positionBytes, triplePatternBytes, patternBytes}
@@ -18,7 +19,7 @@ use Rattle.model.specs.declared.pattern.Position.the-variants.{Term, Var
 use Rattle.model.specs.declared.pattern.TriplePattern.{TriplePattern}
 use Rattle.model.proofs.Booleans.{and-cases, and-make}
 use Rattle.model.proofs.Growing.{Grows}
-use Rattle.model.proofs.Readers.{ask-gives, Asks, asked, passes, Front, front-none, front-then, Reads, returned, repeated-read, repeated-written, FileIsExact, file-is-exact}
+use Rattle.model.proofs.Readers.{ask-gives, Asks, asked, passes, Front, front-none, front-then, Reads, returned, repeated-read, repeated-written, file-is-exact}
 use Rattle.model.proofs.Numbers.{number-written, number-gives, bytes-both, bytes-concatMap, number-bytes}
 
 -- ---- positions

@@ -10,6 +10,7 @@ use borrow.Author.Tests.{ltb-true, eqb-true, eq-eqb}
 use Rattle.model.specs.Lists.{all, any, concatMap}
 use Rattle.model.specs.Reader.{gives, after, ask, repeated}
 use Rattle.model.specs.Numbers.{areBytes, numberBytes, numberLimit}
+use Rattle.model.specs.Files.{FileIsExact}
 use Rattle.model.specs.Store.{Store}
 use Rattle.model.specs.Pattern.{Pattern, mostTriplePatterns}
 use Rattle.model.specs.Plan.{Step, Plan, isPlace, mayChoose, placesOf, distinct, isStep, isProper}
@@ -17,7 +18,7 @@ use Rattle.model.specs.PlanFile.{step, stepNumbers, readPlan, planBytes}
 use Rattle.model.proofs.Booleans.{and-cases, and-make, bool-ext}
 use Rattle.model.proofs.Membership.{any-append}
 use Rattle.model.proofs.Growing.{Grows, all-grows, both-grow, map-grows}
-use Rattle.model.proofs.Readers.{ask-gives, Front, front-then, Reads, returned, repeated-read, repeated-written, FileIsExact, file-is-exact}
+use Rattle.model.proofs.Readers.{ask-gives, Front, front-then, Reads, returned, repeated-read, repeated-written, file-is-exact}
 use Rattle.model.proofs.Numbers.{number-written, number-gives, bytes-concatMap, number-bytes}
 use Rattle.model.proofs.Places.{choice-small}
 

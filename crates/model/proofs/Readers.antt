@@ -10,6 +10,7 @@ use lib.Dec.{ltb}
 use Rattle.model.specs.Lists.{concatMap, isEmpty}
 use Rattle.model.specs.Reader.{Reply, refused, gives, Reader, after, ask, allRead, wholeFile, repeated}
 use Rattle.model.specs.Numbers.{areBytes}
+use Rattle.model.specs.Files.{FileIsExact}
 use Rattle.model.proofs.Booleans.{and-cases}
 use Rattle.model.proofs.Membership.{all-append}
 use Rattle.model.proofs.Growing.{Grows, longer, passed-inside}
@@ -142,13 +143,6 @@ whole-gives {A} n reader bytes {a} h = go (reader bytes) h
     go : (reply : Reply (A × List ℕ)) → allRead n reply ≡ gives a → reply ≡ gives (a, [])
     go (refused m) e = refused≢gives e
     go (gives x) e = ended (x .0) (x .1) e
-
--- what is read is good; what is written is bytes and is read back; an accepted file is what is written for what was read
-abbrev pub FileIsExact : {A : Type 0} → (List ℕ → Reply A) → (A → List ℕ) → (A → Bool) → Type 0
-FileIsExact {A} read write good =
-    ((bytes : List ℕ) (x : A) → read bytes ≡ gives x → good x ≡ true)
-    × ((x : A) → good x ≡ true → (areBytes (write x) ≡ true) × (read (write x) ≡ gives x))
-    × ((bytes : List ℕ) (x : A) → areBytes bytes ≡ true → read bytes ≡ gives x → bytes ≡ write x)
 
 pub file-is-exact : {A : Type 0} {reader : Reader A} {write : A → List ℕ} {good : A → Bool} (n : ℕ) → Reads (λ _. reader) write (λ _. good)
     → ((x : A) → areBytes (write x) ≡ true) → FileIsExact (wholeFile n reader) write good

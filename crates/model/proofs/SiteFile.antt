@@ -11,11 +11,12 @@ use borrow.Author.Tests.{leb-true}
 use Rattle.model.specs.Lists.{all, concatMap, sum, ascends, aboveLast}
 use Rattle.model.specs.Reader.{gives, after, ask, repeated}
 use Rattle.model.specs.Numbers.{areBytes, isTerm, numberBytes}
+use Rattle.model.specs.Files.{FileIsExact}
 use Rattle.model.specs.Site.{Row, rowBefore, Table, Site, mostPredicates, mostRows, rowTotal, predicatesProper, rowsProper, isSite}
 use Rattle.model.specs.SiteFile.{Declaration, declaredTerms, declaredTotal, declaredProper, declaration, row, tables, siteFile, readSite, declarationBytes, rowBytes, declarationOf, siteBytes, declarations}
 use Rattle.model.proofs.Booleans.{and-cases, and-make}
 use Rattle.model.proofs.Growing.{Grows, all-grows, ascends-grows, both-grow, map-grows, sum-grows}
-use Rattle.model.proofs.Readers.{after-gives, ask-gives, Front, front-none, front-then, Reads, returned, repeated-read, repeated-written, FileIsExact, file-is-exact}
+use Rattle.model.proofs.Readers.{after-gives, ask-gives, Front, front-none, front-then, Reads, returned, repeated-read, repeated-written, file-is-exact}
 use Rattle.model.proofs.Numbers.{number-written, number-gives, term-fits, bytes-both, bytes-concatMap, number-bytes}
 
 -- ---- general

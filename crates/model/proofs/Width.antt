@@ -7,19 +7,15 @@ use mathlib.Core.List.{[], List·Memᴰ·head, List·Memᴰ·tail}
 use lib.ListN.{length}
 use lib.Dec.{ltb}
 use borrow.Author.Tests.{ltb-true, ltb-false, lt-ltb, eqb-true, eq-eqb}
-use Rattle.model.specs.Lists.{_∈_, filter, any, concatMap, countUp, below}
+use Rattle.model.specs.Lists.{_∈_, filter, concatMap, countUp, below}
 use Rattle.model.specs.Site.{Site}
-use Rattle.model.specs.Pattern.{Pattern, mostVariables, positions, width, isAccepted, sameVariable}
+use Rattle.model.specs.Pattern.{Pattern, mostVariables, positions, width, isAccepted, sameVariable, stands}
 use Rattle.model.specs.declared.pattern.Position.{Position}
 use Rattle.model.specs.declared.pattern.Position.the-variants.{Term, Var}
 use Rattle.model.specs.declared.pattern.TriplePattern.{TriplePattern}
 use Rattle.model.proofs.Booleans.{bool-ext}
 use Rattle.model.proofs.Membership.{from-any, into-any, into-concatMap, from-concatMap}
 use Rattle.model.proofs.Patterns.{columns, width-limit, variable-named, variable-below}
-
--- the variable stands in the pattern
-abbrev pub stands : Pattern → ℕ → Bool
-stands pattern v = any (sameVariable (Var v)) (concatMap positions pattern)
 
 pub is-variable : (v : ℕ) (x : Position) → sameVariable (Var v) x ≡ true → Var v ≡ x
 is-variable v (Term t) h = absurd (false≢true h)

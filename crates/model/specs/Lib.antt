@@ -1,7 +1,8 @@
--- The definitions. Lists and Reader are general; the others follow document 01, in its order.
+-- The definitions. Lists, Reader and Files are general; the others follow document 01, in its order.
 pub mod Lists
 pub mod Reader
 pub mod Numbers
+pub mod Files
 pub mod Site
 pub mod SiteFile
 pub mod Tables

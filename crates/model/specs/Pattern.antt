@@ -4,7 +4,7 @@ use mathlib.Core.Bool.{Bool, true, false, _&&_}
 use mathlib.Core.List.{List, [], _∷_}
 use lib.ListN.{length, getD}
 use lib.Dec.{eqb, ltb, leb}
-use Rattle.model.specs.Lists.{concatMap, below}
+use Rattle.model.specs.Lists.{any, concatMap, below}
 use Rattle.model.specs.Numbers.{isTerm}
 use Rattle.model.specs.Site.{Row, Site, isDeclared}
 use Rattle.model.specs.Tables.{Column, subject, object, vp}
@@ -92,6 +92,10 @@ sameVariable (Term t) (Term u) = false
 sameVariable (Term t) (Var w) = false
 sameVariable (Var v) (Term u) = false
 sameVariable (Var v) (Var w) = eqb v w
+
+-- the variable stands in the pattern
+abbrev pub stands : Pattern → ℕ → Bool
+stands pattern v = any (sameVariable (Var v)) (concatMap positions pattern)
 
 -- predicates are terms: a variable has no table
 abbrev pub predicateTable : Site → Position → List Row

@@ -1,10 +1,12 @@
 -- The planner: a table for each triple pattern, then the order of the triple patterns.
-use Prim.Native.Nat.{ℕ, zero, suc, _+_, _*_}
+use Prim.Native.Nat.{ℕ, zero, suc, _+_, _*_, _<_}
+use mathlib.Core.Path.{_≡_}
+use mathlib.Core.Logic.{_⊎_}
 use mathlib.Core.Bool.{Bool, true, false, cond, _&&_, _||_, not}
 use mathlib.Core.List.{List, [], _∷_, _++_, map}
 use lib.ListN.{length}
 use lib.Dec.{eqb, ltb}
-use Rattle.model.specs.Lists.{filter, any, below}
+use Rattle.model.specs.Lists.{_∈_, filter, any, below}
 use Rattle.model.specs.Tables.{kindCount}
 use Rattle.model.specs.Store.{Store}
 use Rattle.model.specs.Pattern.{Pattern, positions, places, tripleAt, sameVariable}
@@ -90,3 +92,17 @@ order store pattern (suc n) taken remaining =
 unfoldable pub planned : Store → Pattern → Plan
 planned store pattern =
     map (λ i. record { place = i; choice = chooseTable store pattern i }) (order store pattern (length pattern) [] (places pattern))
+
+-- ---- the order, in words
+
+-- while some remaining place shares a variable with those taken, only such ones compete; else all do
+abbrev pub Competes : Pattern → List ℕ → List ℕ → ℕ → Type 0
+Competes pattern taken remaining i = (isJoined pattern taken i ≡ true) ⊎ ((j : ℕ) → j ∈ remaining → isJoined pattern taken j ≡ false)
+
+-- place i comes before place j: it has more terms among the three positions; or as many, and fewer rows in the chosen table;
+-- or as many of both, and is the lower place
+abbrev pub Precedes : Store → Pattern → List ℕ → ℕ → ℕ → Type 0
+Precedes store pattern taken i j =
+    (termCount pattern taken j < termCount pattern taken i)
+    ⊎ ((termCount pattern taken i ≡ termCount pattern taken j)
+    × ((chosenRows store pattern i < chosenRows store pattern j) ⊎ ((chosenRows store pattern i ≡ chosenRows store pattern j) × (i < j))))

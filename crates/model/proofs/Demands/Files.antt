@@ -7,6 +7,7 @@ use mathlib.Core.List.{List}
 use lib.ListN.{length}
 use Rattle.model.specs.Reader.{gives}
 use Rattle.model.specs.Numbers.{areBytes}
+use Rattle.model.specs.Files.{FileIsExact}
 use Rattle.model.specs.Site.{Site, isSite}
 use Rattle.model.specs.SiteFile.{readSite, siteBytes}
 use Rattle.model.specs.Store.{Store}
@@ -15,7 +16,6 @@ use Rattle.model.specs.PatternFile.{readPattern, patternBytes}
 use Rattle.model.specs.Plan.{isProper}
 use Rattle.model.specs.PlanFile.{readPlan, planBytes}
 use Rattle.model.proofs.Patterns.{pattern-limit}
-use Rattle.model.proofs.Readers.{FileIsExact}
 use Rattle.model.proofs.SiteFile.{site-file}
 use Rattle.model.proofs.PatternFile.{pattern-accepted, pattern-file}
 use Rattle.model.proofs.PlanFile.{plan-file}

@@ -9,10 +9,10 @@ use Rattle.model.specs.Tables.{kindCount}
 use Rattle.model.specs.Store.{Store}
 use Rattle.model.specs.Pattern.{Pattern}
 use Rattle.model.specs.Plan.{placesOf, mayChoose, isProper}
-use Rattle.model.specs.Planner.{tableRows, chooseTable, isJoined, planned}
+use Rattle.model.specs.Planner.{tableRows, chooseTable, isJoined, planned, Competes, Precedes}
 use Rattle.model.proofs.Booleans.{not-both}
 use Rattle.model.proofs.Choosing.{choice-order, chosen-table}
-use Rattle.model.proofs.Ordering.{Competes, Precedes, picks}
+use Rattle.model.proofs.Ordering.{picks}
 use Rattle.model.proofs.ProperPlan.{planned-proper}
 
 -- ==== The planner

@@ -12,7 +12,7 @@ use Rattle.model.specs.Reader.{gives}
 use Rattle.model.specs.Site.{Row, rowBefore, Site, isSite, IsFact}
 use Rattle.model.specs.Tables.{vp, at, Kind, semiJoin, isStored}
 use Rattle.model.specs.Store.{storeAt}
-use Rattle.model.specs.Pattern.{Pattern, mostVariables, width, isAccepted, fullTable}
+use Rattle.model.specs.Pattern.{Pattern, mostVariables, width, isAccepted, stands, fullTable}
 use Rattle.model.specs.PatternFile.{readPattern}
 use Rattle.model.specs.Plan.{Plan, qualifies, reducedTable}
 use Rattle.model.specs.PlanFile.{readPlan}
@@ -24,7 +24,7 @@ use Rattle.model.proofs.Booleans.{and-cases, and-make}
 use Rattle.model.proofs.Partition.{vp-fact, fact-vp, vp-ascends}
 use Rattle.model.proofs.SemiJoins.{into-semi-join, from-semi-join, semi-join-ascends}
 use Rattle.model.proofs.Patterns.{pattern-limit}
-use Rattle.model.proofs.Width.{stands, width-counts}
+use Rattle.model.proofs.Width.{width-counts}
 use Rattle.model.proofs.Places.{not-against-itself, empty-reduced, empty-full}
 use Rattle.model.proofs.Solutions.{solutions-ascend, solutions-sound, solutions-complete}
 use Rattle.model.proofs.Equation.{join-solutions}
