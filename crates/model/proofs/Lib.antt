@@ -14,6 +14,7 @@ pub mod Solutions
 pub mod Partition
 pub mod SemiJoins
 pub mod Places
+pub mod MayChoose
 pub mod PlanFile
 pub mod Join
 pub mod Plans

@@ -6,18 +6,18 @@ use mathlib.Core.Bool.{true, false, _&&_, not, false≢true}
 use mathlib.Core.List.{List, [], _∷_, List·Memᴰ·not-nil}
 use lib.ListN.{length}
 use lib.Dec.{eqb}
-use borrow.Author.Tests.{ltb-true, eqb-true, eq-eqb, not-true}
+use borrow.Author.Tests.{ltb-true, lt-ltb, eqb-true, eqb-false, eq-eqb, ne-eqb, not-true}
 use Rattle.model.specs.Lists.{_∈_, ascends}
 use Rattle.model.specs.Site.{Row, rowBefore, Site, isSite, IsFact}
 use Rattle.model.specs.Tables.{Column, subject, object, at, Kind}
 use Rattle.model.specs.Store.{Store, storeAt}
 use Rattle.model.specs.Pattern.{Pattern, mostTriplePatterns, isAccepted, noTriplePattern, tripleAt, positionAt, sameVariable, predicateTable, fullTable}
-use Rattle.model.specs.Plan.{isPlace, qualifies, reducedTable, partner, kindOf, chosenTable, mayChoose}
+use Rattle.model.specs.Plan.{isPlace, qualifies, reducedTable, partner, kindOf, chosenTable, mayChoose, Qualifies}
 use Rattle.model.specs.Solutions.{value, instance, IsSolution, solutions}
 use Rattle.model.specs.declared.pattern.Position.{Position}
 use Rattle.model.specs.declared.pattern.Position.the-variants.{Term, Var}
 use Rattle.model.specs.declared.pattern.TriplePattern.{TriplePattern}
-use Rattle.model.proofs.Booleans.{and-cases, not-both, to-false}
+use Rattle.model.proofs.Booleans.{and-cases, to-false}
 use Rattle.model.proofs.Membership.{at-place}
 use Rattle.model.proofs.Partition.{vp-fact, fact-vp, vp-ascends}
 use Rattle.model.proofs.Patterns.{predicate-fixed}
@@ -32,19 +32,14 @@ at-column : (c : Column) (row : List ℕ) (q : TriplePattern) → at c (rowAt ro
 at-column subject row q = refl
 at-column object row q = refl
 
-same-value : (row : List ℕ) (x y : Position) → sameVariable x y ≡ true → value row x ≡ value row y
-same-value row (Term t) (Term u) h = absurd (false≢true h)
-same-value row (Term t) (Var w) h = absurd (false≢true h)
-same-value row (Var v) (Term u) h = absurd (false≢true h)
-same-value row (Var v) (Var w) h = ap (λ (x : ℕ). value row (Var x)) (eqb-true v w h)
-
 -- ---- where a table qualifies
 
-pub record Qualifies (pattern : Pattern) (i j : ℕ) (k : Kind) : Type 0 where
-  pub here : i < length pattern
-  pub there : j < length pattern
-  pub other : eqb i j ≡ false
-  pub shared : sameVariable (positionAt (k .0) (tripleAt pattern i)) (positionAt (k .1) (tripleAt pattern j)) ≡ true
+-- positions that hold the same variable
+pub one-variable : (x y : Position) → sameVariable x y ≡ true → (v : ℕ) × (x ≡ Var v) × (y ≡ Var v)
+one-variable (Term t) (Term u) h = absurd (false≢true h)
+one-variable (Term t) (Var w) h = absurd (false≢true h)
+one-variable (Var v) (Term u) h = absurd (false≢true h)
+one-variable (Var v) (Var w) h = (v, refl, ap Var (sym (eqb-true v w h)))
 
 pub qualifying : (pattern : Pattern) (i j : ℕ) (k : Kind) → qualifies pattern i j k ≡ true → Qualifies pattern i j k
 unfolding qualifies
@@ -52,12 +47,26 @@ qualifying pattern i j k h =
     let a = and-cases (isPlace pattern i && (isPlace pattern j && not (eqb i j))) (sameVariable (positionAt (k .0) (tripleAt pattern i)) (positionAt (k .1) (tripleAt pattern j))) h in
     let b = and-cases (isPlace pattern i) (isPlace pattern j && not (eqb i j)) (a .0) in
     let c = and-cases (isPlace pattern j) (not (eqb i j)) (b .1) in
-    record { here = ltb-true i (length pattern) (b .0); there = ltb-true j (length pattern) (c .0); other = not-true (eqb i j) (c .1); shared = a .1 }
+    let v = one-variable (positionAt (k .0) (tripleAt pattern i)) (positionAt (k .1) (tripleAt pattern j)) (a .1) in
+    record {
+      here = ltb-true i (length pattern) (b .0);
+      there = ltb-true j (length pattern) (c .0);
+      other = eqb-false i j (not-true (eqb i j) (c .1));
+      variable = v .0;
+      held-here = v .1;
+      held-there = v .2;
+    }
+
+pub qualified : {pattern : Pattern} {i j : ℕ} {k : Kind} → Qualifies pattern i j k → qualifies pattern i j k ≡ true
+unfolding qualifies
+qualified {pattern} {i} {j} q =
+    rw (lt-ltb i (length pattern) (q .here), lt-ltb j (length pattern) (q .there), ne-eqb i j (q .other), q .held-here, q .held-there)
+    (eq-eqb (q .variable) (q .variable) refl)
 
 -- j is other than i
 pub not-against-itself : (pattern : Pattern) (i : ℕ) (k : Kind) → qualifies pattern i i k ≡ false
 not-against-itself pattern i k =
-    to-false (qualifies pattern i i k) (λ h. not-both (eq-eqb i i refl) (qualifying pattern i i k h .other))
+    to-false (qualifies pattern i i k) (λ h. qualifying pattern i i k h .other refl)
 
 -- ---- tables
 
@@ -118,7 +127,7 @@ module _ (site : Site) (pattern : Pattern) (accepted : isAccepted site pattern �
         into-semi-join k (fullTable site pattern i) (fullTable site pattern j) (row-in-full i (c .here)) (
           rowAt row r,
           row-in-full j (c .there),
-          at-column (k .0) row q ∙ same-value row (positionAt (k .0) q) (positionAt (k .1) r) (c .shared) ∙ sym (at-column (k .1) row r),
+          at-column (k .0) row q ∙ ap (value row) (c .held-here) ∙ sym (ap (value row) (c .held-there)) ∙ sym (at-column (k .1) row r),
         )
 
     pub row-in-chosen : (t : ℕ) (i c : ℕ) → i < length pattern → mayChoose (storeAt t site) pattern i c ≡ true

@@ -95,6 +95,11 @@ planned store pattern =
 
 -- ---- the order, in words
 
+-- a position is one term or none
+abbrev pub termsAt : Position → ℕ
+termsAt (Term t) = 1
+termsAt (Var v) = 0
+
 -- while some remaining place shares a variable with those taken, only such ones compete; else all do
 abbrev pub Competes : Pattern → List ℕ → List ℕ → ℕ → Type 0
 Competes pattern taken remaining i = (isJoined pattern taken i ≡ true) ⊎ ((j : ℕ) → j ∈ remaining → isJoined pattern taken j ≡ false)

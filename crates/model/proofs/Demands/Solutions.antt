@@ -5,8 +5,6 @@ use mathlib.Core.Logic.{_↔_}
 use mathlib.Core.Bool.{true, false}
 use mathlib.Core.List.{List, []}
 use lib.ListN.{length}
-use lib.Dec.{ltb}
-use borrow.Author.Tests.{ltb-true, lt-ltb}
 use Rattle.model.specs.Lists.{_∈_, ascends, filter, below, lexicographic}
 use Rattle.model.specs.Reader.{gives}
 use Rattle.model.specs.Site.{Row, rowBefore, Site, isSite, IsFact}
@@ -20,12 +18,12 @@ use Rattle.model.specs.Solutions.{IsSolution, solutions}
 use Rattle.model.specs.Components.{ComponentsSolved}
 use Rattle.model.specs.Join.{joinRows}
 use Rattle.model.specs.Calls.{plan, noneByCounts}
-use Rattle.model.proofs.Booleans.{and-cases, and-make}
 use Rattle.model.proofs.Partition.{vp-fact, fact-vp, vp-ascends}
 use Rattle.model.proofs.SemiJoins.{into-semi-join, from-semi-join, semi-join-ascends}
 use Rattle.model.proofs.Patterns.{pattern-limit}
 use Rattle.model.proofs.Width.{width-counts}
 use Rattle.model.proofs.Places.{not-against-itself, empty-reduced, empty-full}
+use Rattle.model.proofs.MayChoose.{stored-exactly}
 use Rattle.model.proofs.Solutions.{solutions-ascend, solutions-sound, solutions-complete}
 use Rattle.model.proofs.Equation.{join-solutions}
 use Rattle.model.proofs.Components.{components-solved}
@@ -82,11 +80,7 @@ abbrev pub Stored-Exactly : Type 0
 Stored-Exactly = (t n m : ℕ) → (isStored t n m ≡ true) ↔ ((1 ≤ n) × (1000 * n < t * m))
 
 pub demand-2-stored : Stored-Exactly
-unfolding isStored
-demand-2-stored t n m = (
-  (λ h. let c = and-cases (ltb 0 n) (ltb (1000 * n) (t * m)) h in (ltb-true 0 n (c .0), ltb-true (1000 * n) (t * m) (c .1))),
-  λ c. and-make (lt-ltb 0 n (c .0)) (lt-ltb (1000 * n) (t * m) (c .1)),
-)
+demand-2-stored = stored-exactly
 
 -- ==== Demand 3. For every site, threshold, accepted pattern and proper plan, the step-by-step join of the plan's tables, built from
 -- that site at that threshold, yields exactly the solutions over the whole site: each of them once, and no other row.
