@@ -5,7 +5,7 @@ use native.Mathlib.Nat.{zero-mul, suc-mul, add-comm, add-zero}
 use mathlib.Core.Path.{_≡_, refl, sym, ap, _∙_}
 use mathlib.Core.List.{List, [], _∷_, _++_, append-assoc}
 use lib.ListN.{length, getD, take, drop, length-append, List·getD-append}
-use lib.Seq.{split-at, length-take-le, take-append-seam, drop-at, getD-drop, drop-append-seam, drop-drop}
+use lib.Seq.{split-at, length-take-le, take-append-seam, take-at, drop-at, getD-drop, drop-append-seam, drop-drop}
 use Rattle.model.specs.Lists.{concatMap}
 
 module _ {A : Type 0} where
@@ -21,6 +21,9 @@ module _ {A : Type 0} where
 
   pub block-at : {l b : List A} {i j : ℕ} → i ≡ j → Block l i b → Block l j b
   block-at e x = rw e at x
+
+  pub before-block : {l b : List A} {i : ℕ} (x : Block l i b) → x .before ≡ take i l
+  before-block {l} {b} {i} x = sym (ap (take i) (x .whole) ∙ take-at (x .before) (b ++ x .after) i (x .length-before))
 
   -- a block stands inside
   pub block-inside : {l b : List A} {i : ℕ} → Block l i b → i + length b ≤ length l

@@ -8,10 +8,10 @@ use mathlib.Core.List.{List, [], _∷_, _++_, map, append-assoc, append-nil}
 use lib.ListN.{length, getD, take, drop, length-append, List·getD-map}
 use Rattle.model.specs.SiteFile.{declarations}
 use Rattle.model.specs.Lists.{concatMap, sum}
-use Rattle.model.specs.Site.{Row, Table, Site, noTable, tableAt}
+use Rattle.model.specs.Site.{Row, Table, Site, rowTotal, noTable, tableAt}
 use Rattle.model.specs.Tables.{Kind, kinds, kindCount, kindAt, semiJoin, isStored}
-use Rattle.model.specs.Store.{Reduced, semiJoins, isStoredTable, storedRows, tableWords, vpEntries, semiJoinEntries, rowsStart, vpEntryAt, semiJoinEntryAt, storedStart, vpWords, storedWords, layout, wordsUsed}
-use Rattle.model.proofs.Blocks.{Block, element-block, block-at, inner-block, take-block, getD-block, head-block, concatMap-block, length-concatMap, equal-block}
+use Rattle.model.specs.Store.{Reduced, semiJoins, semiJoinsBefore, isStoredTable, storedRows, storedTotal, tableWords, vpEntries, semiJoinEntries, rowsStart, vpEntryAt, semiJoinEntryAt, storedStart, vpWords, storedWords, layout, wordsUsed}
+use Rattle.model.proofs.Blocks.{Block, element-block, block-at, before-block, inner-block, take-block, getD-block, head-block, concatMap-block, length-concatMap, equal-block}
 
 -- ---- entries, each with the start of its rows, and the rows
 
@@ -60,10 +60,15 @@ module _ {A : Type 0} (rows : A → List Row) where
         length-before = length-entries here (b .before) ∙ ap (λ (k : ℕ). n * k) (b .length-before);
       }
 
-      -- among words that hold the entries and the rows: an entry, and its rows at the start that it gives
+      -- among words that hold the entries and the rows: an entry, which gives as its start the words of all rows before, and there its rows
+      entry-at : {words : List ℕ} {first here i : ℕ} {xs : List A} {x : A} → Block words first (entries here xs) → Block words here (allWords xs)
+          → Block xs i (x ∷ []) → Block words (first + n * i) (entry (here + size (take i xs)) x) × Block words (here + size (take i xs)) (tableWords (rows x))
+      entry-at {here} es rs b = rw (← before-block b) (inner-block es (entry-block here b), inner-block rs (rows-block b))
+
+      -- the same, whatever the start
       pub entry-and-rows : {words : List ℕ} {first here i : ℕ} {xs : List A} {x : A} → Block words first (entries here xs) → Block words here (allWords xs)
           → Block xs i (x ∷ []) → (start : ℕ) × Block words (first + n * i) (entry start x) × Block words start (tableWords (rows x))
-      entry-and-rows {here} es rs b = (here + size (b .before), inner-block es (entry-block here b), inner-block rs (rows-block b))
+      entry-and-rows es rs b = let e = entry-at es rs b in (_, e .0, e .1)
 
 abbrev pub vpEntry : ℕ → Table → List ℕ
 vpEntry here x = x .predicate ∷ length (x .rows) ∷ here ∷ []
@@ -189,15 +194,17 @@ module _ (t : ℕ) (site : Site) where
   pub record VpEntry (i : ℕ) : Type 0 where
     pub term : getD words (vpEntryAt i) 0 ≡ tableAt site i .predicate
     pub count : getD words (vpEntryAt i + 1) 0 ≡ length (tableAt site i .rows)
+    pub start : getD words (vpEntryAt i + 2) 0 ≡ rowsStart (length site) + 2 * rowTotal (take i site)
     pub rows : take (2 * length (tableAt site i .rows)) (drop (getD words (vpEntryAt i + 2) 0) words) ≡ tableWords (tableAt site i .rows)
 
   pub vp-entry : (i : ℕ) → i < length site → VpEntry i
   vp-entry i h =
       let es = rw (vp-entries (rowsStart (length site)) site) at vp-entries-block in
-      let (start, entry, rows) = entry-and-rows (λ x. x .rows) vpEntry 3 (λ here x. refl) es vp-words-block (element-block noTable site i h) in
+      let (entry, rows) = entry-at (λ x. x .rows) vpEntry 3 (λ here x. refl) es vp-words-block (element-block noTable site i h) in
       record {
         term = head-block entry 0;
         count = getD-block entry 1 0 (omega arith);
+        start = getD-block entry 2 0 (omega arith);
         rows = rw (getD-block entry 2 0 (omega arith)) (take-rows (tableAt site i .rows) rows);
       }
 
@@ -206,6 +213,8 @@ module _ (t : ℕ) (site : Site) where
 
   pub record SemiJoinEntry (i j k : ℕ) : Type 0 where
     pub count : getD words (semiJoinEntryAt (length site) i j k) 0 ≡ length (leftAt site i j k)
+    pub start : isStoredAt i j k ≡ true
+        → getD words (semiJoinEntryAt (length site) i j k + 1) 0 ≡ storedStart site + 2 * storedTotal t (semiJoinsBefore site i j k)
     pub rows : isStoredAt i j k ≡ true
         → take (2 * length (leftAt site i j k)) (drop (getD words (semiJoinEntryAt (length site) i j k + 1) 0) words) ≡ tableWords (leftAt site i j k)
     pub not-stored : isStoredAt i j k ≡ false → getD words (semiJoinEntryAt (length site) i j k + 1) 0 ≡ 0
@@ -215,11 +224,13 @@ module _ (t : ℕ) (site : Site) where
   semi-join-entry i j k hi hj hk =
       let x = reduced (tableAt site i) (tableAt site j) (kindAt k) in
       let es = rw (semi-join-entries t (storedStart site) (semiJoins site)) at semi-join-entries-block in
-      let (start, found, rows) = entry-and-rows (storedRows t) (semiJoinEntry t) 2 (λ here x. refl) es stored-words-block (semi-join-block site i j k hi hj hk) in
+      let (found, rows) = entry-at (storedRows t) (semiJoinEntry t) 2 (λ here x. refl) es stored-words-block (semi-join-block site i j k hi hj hk) in
+      let start = storedStart site + 2 * storedTotal t (semiJoinsBefore site i j k) in
       let entry : Block words (semiJoinEntryAt (length site) i j k) (semiJoinEntry t start x) = block-at (omega arith) found in
       let second = getD-block entry 1 0 (omega arith) in
       record {
         count = head-block entry 0;
+        start = λ e. rw (second, e) refl;
         rows = λ e. rw (second, e) (take-rows (leftAt site i j k) (rw e at rows));
         not-stored = λ e. rw (second, e) refl;
       }

@@ -6,7 +6,7 @@ use mathlib.Core.Option.{Option, none, some}
 use mathlib.Core.List.{List, [], _∷_, _++_, map}
 use lib.ListN.{length, getD, take, drop}
 use lib.Dec.{leb}
-use Rattle.model.specs.Lists.{concatMap, sameWords}
+use Rattle.model.specs.Lists.{concatMap, sum, sameWords}
 use Rattle.model.specs.Site.{Row, Site, isSite, rowTotal, mostPredicates, mostRows}
 use Rattle.model.specs.SiteFile.{Declaration, declarations}
 use Rattle.model.specs.Tables.{kinds, kindCount, semiJoin, isStored, mostThreshold}
@@ -27,6 +27,10 @@ isStoredTable t x = isStored t (length (x .rows)) (length (x .full))
 -- the rows that the store holds of a semi-join
 unfoldable pub storedRows : ℕ → Reduced → List Row
 storedRows t x = cond (isStoredTable t x) (x .rows) []
+
+-- how many rows the store holds of some semi-joins
+abbrev pub storedTotal : ℕ → List Reduced → ℕ
+storedTotal t xs = sum (λ x. length (storedRows t x)) xs
 
 abbrev pub rowWords : Row → List ℕ
 rowWords r = r .0 ∷ r .1 ∷ []
@@ -56,6 +60,10 @@ semiJoinPlace p i j k = (i * p + j) * kindCount + k
 -- the first word of its entry, behind those of the predicates
 abbrev pub semiJoinEntryAt : ℕ → ℕ → ℕ → ℕ → ℕ
 semiJoinEntryAt p i j k = vpEntryAt p + 2 * semiJoinPlace p i j k
+
+-- those before it, in that nesting
+abbrev pub semiJoinsBefore : Site → ℕ → ℕ → ℕ → List Reduced
+semiJoinsBefore site i j k = take (semiJoinPlace (length site) i j k) (semiJoins site)
 
 -- where the rows begin: behind the entries of p predicates and of their semi-joins
 abbrev pub rowsStart : ℕ → ℕ

@@ -9,15 +9,16 @@ use mathlib.Core.List.{List, _++_}
 use lib.ListN.{length, getD, take, drop}
 use lib.Dec.{leb}
 use borrow.Author.Tests.{le-leb}
-use Rattle.model.specs.Site.{Site, isSite, noTable, tableAt}
+use Rattle.model.specs.Site.{Site, isSite, rowTotal, noTable, tableAt}
 use Rattle.model.specs.SiteFile.{readSite}
 use Rattle.model.specs.Tables.{vp, semiJoin, kindAt, kindCount, mostThreshold, isStored}
-use Rattle.model.specs.Store.{tableWords, vpEntryAt, semiJoinEntryAt, layout, mostStoreWords, wordsUsed, Holds, IsStore, Store, storeAt, storeOf}
+use Rattle.model.specs.Store.{Reduced, semiJoins, storedRows, storedTotal, tableWords, vpEntryAt, semiJoinEntryAt, semiJoinsBefore, rowsStart, layout, mostStoreWords, Holds, IsStore, Store, storeAt, storeOf}
 use Rattle.model.specs.Calls.{Outcome, either, unaltered, build}
 use Rattle.model.specs.declared.answer.Answer.the-variants.{Refused}
 use Rattle.model.proofs.Membership.{at-place}
 use Rattle.model.proofs.Partition.{vp-table}
-use Rattle.model.proofs.StoreLayout.{layout-used, vp-entry, semi-join-entry}
+use Rattle.model.proofs.Blocks.{head-block}
+use Rattle.model.proofs.StoreLayout.{length-all, semi-join-block, layout-used, vp-entry, semi-join-entry, length-layout}
 use Rattle.model.proofs.Stores.{store-sound, store-complete, built-holds}
 use Rattle.model.proofs.StoreSize.{store-fits}
 use Rattle.model.proofs.SiteFile.{site-file}
@@ -30,7 +31,36 @@ use Rattle.model.proofs.Calls.{by-reply, by-question}
 abbrev predicateAt : Site → ℕ → ℕ
 predicateAt site i = tableAt site i .predicate
 
--- per predicate its term, its row count, and the words from its start are its rows
+-- P; T; words used: the third is the count of all words
+abbrev pub First-Words : Type 0
+First-Words =
+    (t : ℕ) (site : Site)
+    → let words = layout t site in
+    (getD words 0 0 ≡ length site) × (getD words 1 0 ≡ t) × (getD words 2 0 ≡ length words)
+
+pub store-first-words : First-Words
+unfolding layout
+store-first-words t site = (refl, refl, layout-used t site)
+
+-- then per predicate three words, then for each p, each q, each k two words, and then the rows
+abbrev pub Entry-Places : Type 0
+Entry-Places =
+    ((i : ℕ) → vpEntryAt i ≡ 3 + 3 * i)
+    × ((p i j k : ℕ) → semiJoinEntryAt p i j k ≡ 3 + 3 * p + 2 * ((i * p + j) * 3 + k))
+    × ((p : ℕ) → rowsStart p ≡ 3 + 3 * p + 2 * (3 * (p * p)))
+
+pub store-entry-places : Entry-Places
+store-entry-places = ((λ i. refl), (λ p i j k. refl), λ p. omega arith)
+
+-- the rows follow each other without a gap, two words each: all VP rows, then all stored tables' rows, and no word behind them
+abbrev pub Words-Counted : Type 0
+Words-Counted =
+    (t : ℕ) (site : Site) → length (layout t site) ≡ rowsStart (length site) + 2 * rowTotal site + 2 * storedTotal t (semiJoins site)
+
+pub store-words-counted : Words-Counted
+store-words-counted t site = rw (length-layout t site, length-all (storedRows t) (semiJoins site)) refl
+
+-- per predicate its term, its row count and its start, also with 0 rows: the rows of the tables before come first; and there are its rows
 abbrev pub VP-Entries : Type 0
 VP-Entries =
     (t : ℕ) (site : Site) (i : ℕ) → isSite site ≡ true → i < length site
@@ -38,14 +68,27 @@ VP-Entries =
     let rows = vp site (predicateAt site i) in
     (getD words (vpEntryAt i) 0 ≡ predicateAt site i)
     × (getD words (vpEntryAt i + 1) 0 ≡ length rows)
+    × (getD words (vpEntryAt i + 2) 0 ≡ rowsStart (length site) + 2 * rowTotal (take i site))
     × (take (2 * length rows) (drop (getD words (vpEntryAt i + 2) 0) words) ≡ tableWords rows)
 
 pub store-vp : VP-Entries
 store-vp t site i proper h =
     let e = vp-entry t site i h in
-    rw (vp-table site (tableAt site i) proper (at-place site noTable i h)) (e .term, e .count, e .rows)
+    rw (vp-table site (tableAt site i) proper (at-place site noTable i h)) (e .term, e .count, e .start, e .rows)
 
--- for each p, q, k the row count of the semi-join, stored or not, and its start: the words from there are its rows, or 0 if not stored
+-- the semi-joins, for each p, each q, each k, in that nesting
+abbrev pub SemiJoins-Nested : Type 0
+SemiJoins-Nested =
+    (site : Site) (i j k : ℕ) (none : Reduced) → i < length site → j < length site → k < 3
+    → let p = tableAt site i .rows in
+    let q = tableAt site j .rows in
+    getD (semiJoins site) ((i * length site + j) * 3 + k) none ≡ record { full = p; rows = semiJoin (kindAt k) p q }
+
+pub store-semi-joins-nested : SemiJoins-Nested
+store-semi-joins-nested site i j k none hi hj hk = head-block (semi-join-block site i j k hi hj hk) none
+
+-- for each p, q, k the row count of the semi-join, stored or not, and its start: all VP rows and the stored rows of the semi-joins
+-- before it come first, and there are its rows; or 0 if not stored
 abbrev pub SemiJoin-Entries : Type 0
 SemiJoin-Entries =
     (t : ℕ) (site : Site) (i j k : ℕ) → isSite site ≡ true → i < length site → j < length site → k < kindCount
@@ -54,6 +97,8 @@ SemiJoin-Entries =
     let full = vp site (predicateAt site i) in
     let left = semiJoin (kindAt k) full (vp site (predicateAt site j)) in
     (getD words entry 0 ≡ length left)
+    × (isStored t (length left) (length full) ≡ true
+    → getD words (entry + 1) 0 ≡ rowsStart (length site) + 2 * rowTotal site + 2 * storedTotal t (semiJoinsBefore site i j k))
     × (isStored t (length left) (length full) ≡ true → take (2 * length left) (drop (getD words (entry + 1) 0) words) ≡ tableWords left)
     × (isStored t (length left) (length full) ≡ false → getD words (entry + 1) 0 ≡ 0)
 
@@ -61,14 +106,7 @@ pub store-semi-joins : SemiJoin-Entries
 store-semi-joins t site i j k proper hi hj hk =
     let e = semi-join-entry t site i j k hi hj hk in
     rw (vp-table site (tableAt site i) proper (at-place site noTable i hi), vp-table site (tableAt site j) proper (at-place site noTable j hj))
-    (e .count, e .rows, e .not-stored)
-
--- the third word is the count of all words
-abbrev pub Words-Used : Type 0
-Words-Used = (t : ℕ) (site : Site) → wordsUsed (layout t site) ≡ length (layout t site)
-
-pub store-words-used : Words-Used
-store-words-used = layout-used
+    (e .count, e .start, e .rows, e .not-stored)
 
 -- the decoder answers exactly where question 10 is yes, with that site and threshold; so words are the store of one site at most
 abbrev pub Decoder-Is-Exact : Type 0
