@@ -2,12 +2,13 @@
 use Prim.Native.Nat.{ℕ, _<_, _≤_}
 use native.Mathlib.Omega.{arith}
 use mathlib.Core.Path.{_≡_, refl, sym, ap, _∙_}
-use mathlib.Core.Logic.{_⊎_, inl, inr}
+use mathlib.Core.Logic.{_⊎_, inl, inr, ⊎-elim, ⊎-map, _↔_}
 use mathlib.Core.Bool.{Bool, true, false, cond, _&&_, _||_, false≢true}
 use mathlib.Core.List.{List, [], _∷_, _++_, List·Memᴰ·head, List·Memᴰ·not-nil, List·Memᴰ·cases-cons}
+use lib.ListN.{length}
 use lib.Dec.{eqb, ltb}
 use borrow.Author.Tests.{ltb-true, ltb-false, eqb-true, lt-ltb, eq-eqb}
-use Rattle.model.specs.Lists.{_∈_, filter, belowFirst, ascends, aboveLast, lexicographic}
+use Rattle.model.specs.Lists.{_∈_, filter, belowFirst, ascends, aboveLast, lexicographic, LowerAtFirst}
 use Rattle.model.specs.Site.{Row, rowBefore}
 use Rattle.model.proofs.Booleans.{and-cases, and-make, or-cases, or-left, or-right, bool-cases, not-both, to-false}
 use Rattle.model.proofs.Membership.{from-filter}
@@ -110,6 +111,52 @@ words-total (a ∷ xs) (b ∷ ys) p q =
 
 pub words : IsOrder lexicographic
 words = record { irreflexive = words-irreflexive; transitive = words-transitive; total = words-total }
+
+-- ---- in words
+
+-- by subject first
+pub row-before : (r s : Row) → (rowBefore r s ≡ true) ↔ ((r .0 < s .0) ⊎ ((r .0 ≡ s .0) × (r .1 < s .1)))
+row-before r s = (
+  (λ h. ⊎-map (λ l. l) (λ c. (c .0, ltb-true (r .1) (s .1) (c .1))) (head-first (r .0) (s .0) (ltb (r .1) (s .1)) h)),
+  ⊎-elim (by-head (r .0) (s .0) (ltb (r .1) (s .1))) (λ c. by-tail (r .0) (s .0) (ltb (r .1) (s .1)) (c .0) (lt-ltb (r .1) (s .1) (c .1))),
+)
+
+-- by the first differing word
+pub from-lexicographic : (xs ys : List ℕ) → length xs ≡ length ys → lexicographic xs ys ≡ true → LowerAtFirst xs ys
+from-lexicographic xs [] l h = absurd (false≢true h)
+from-lexicographic [] (y ∷ ys) l h = absurd (omega arith)
+from-lexicographic (x ∷ xs) (y ∷ ys) l h = go (head-first x y (lexicographic xs ys) h) (λ t. from-lexicographic xs ys (omega arith) t)
+  where
+    go : (x < y) ⊎ ((x ≡ y) × (lexicographic xs ys ≡ true)) → (lexicographic xs ys ≡ true → LowerAtFirst xs ys) → LowerAtFirst (x ∷ xs) (y ∷ ys)
+    go (inl d) rest = record {
+      front = [];
+      lower = x;
+      higher = y;
+      behind-lower = xs;
+      behind-higher = ys;
+      differ = d;
+      left = refl;
+      right = refl;
+    }
+    go (inr c) rest =
+        let r = rest (c .1) in
+        record {
+          front = x ∷ r .front;
+          lower = r .lower;
+          higher = r .higher;
+          behind-lower = r .behind-lower;
+          behind-higher = r .behind-higher;
+          differ = r .differ;
+          left = ap (λ (t : List ℕ). x ∷ t) (r .left);
+          right = rw (← c .0) (ap (λ (t : List ℕ). x ∷ t) (r .right));
+        }
+
+pub into-lexicographic : {xs ys : List ℕ} → LowerAtFirst xs ys → lexicographic xs ys ≡ true
+into-lexicographic r = rw (r .left, r .right) (go (r .front))
+  where
+    go : (front : List ℕ) → lexicographic (front ++ r .lower ∷ r .behind-lower) (front ++ r .higher ∷ r .behind-higher) ≡ true
+    go [] = by-head (r .lower) (r .higher) _ (r .differ)
+    go (x ∷ front) = by-tail x x _ refl (go front)
 
 -- ---- ascending lists
 

@@ -1,5 +1,6 @@
 -- Lists that compute: what passes a test, sums, ascending order.
-use Prim.Native.Nat.{ℕ, zero, suc, _+_}
+use Prim.Native.Nat.{ℕ, zero, suc, _+_, _<_}
+use mathlib.Core.Path.{_≡_}
 use mathlib.Core.Bool.{Bool, true, false, cond, _&&_, _||_}
 use mathlib.Core.Option.{Option, none, some}
 use mathlib.Core.List.{List, [], _∷_, _++_, List·Memᴰ}
@@ -95,3 +96,14 @@ abbrev pub lexicographic : List ℕ → List ℕ → Bool
 lexicographic xs [] = false
 lexicographic [] (y ∷ ys) = true
 lexicographic (x ∷ xs) (y ∷ ys) = ltb x y || (eqb x y && lexicographic xs ys)
+
+-- in words: the same in front, and at the first differing word xs has the lower one
+pub record LowerAtFirst (xs ys : List ℕ) : Type 0 where
+  pub front : List ℕ
+  pub lower : ℕ
+  pub higher : ℕ
+  pub behind-lower : List ℕ
+  pub behind-higher : List ℕ
+  pub differ : lower < higher
+  pub left : xs ≡ front ++ lower ∷ behind-lower
+  pub right : ys ≡ front ++ higher ∷ behind-higher

@@ -1,11 +1,11 @@
 -- Demands 2 and 3: exactly the solutions and the semi-joins, and the join of any proper plan's tables yields them.
 use Prim.Native.Nat.{ℕ, _*_, _≤_, _<_}
 use mathlib.Core.Path.{_≡_}
-use mathlib.Core.Logic.{_↔_}
+use mathlib.Core.Logic.{_⊎_, _↔_}
 use mathlib.Core.Bool.{true, false}
 use mathlib.Core.List.{List, []}
 use lib.ListN.{length}
-use Rattle.model.specs.Lists.{_∈_, ascends, filter, below, lexicographic}
+use Rattle.model.specs.Lists.{_∈_, ascends, filter, below, lexicographic, LowerAtFirst}
 use Rattle.model.specs.Reader.{gives}
 use Rattle.model.specs.Site.{Row, rowBefore, Site, isSite, IsFact}
 use Rattle.model.specs.Tables.{vp, at, Kind, semiJoin, isStored}
@@ -18,6 +18,7 @@ use Rattle.model.specs.Solutions.{IsSolution, solutions}
 use Rattle.model.specs.Components.{ComponentsSolved}
 use Rattle.model.specs.Join.{joinRows}
 use Rattle.model.specs.Calls.{plan, noneByCounts}
+use Rattle.model.proofs.Order.{row-before, from-lexicographic, into-lexicographic}
 use Rattle.model.proofs.Partition.{vp-fact, fact-vp, vp-ascends}
 use Rattle.model.proofs.SemiJoins.{into-semi-join, from-semi-join, semi-join-ascends}
 use Rattle.model.proofs.Patterns.{pattern-limit}
@@ -45,6 +46,20 @@ demand-2-solutions site bytes pattern r = (
   solutions-ascend site pattern,
   λ row. (solutions-sound site pattern row, solutions-complete site pattern (pattern-accepted site bytes pattern r) row),
 )
+
+-- ascending by first differing word
+abbrev pub Words-Ascend : Type 0
+Words-Ascend = (xs ys : List ℕ) → length xs ≡ length ys → (lexicographic xs ys ≡ true) ↔ LowerAtFirst xs ys
+
+pub words-ascend : Words-Ascend
+words-ascend xs ys l = (from-lexicographic xs ys l, into-lexicographic)
+
+-- ascending (subject, object) order: by subject first
+abbrev pub Rows-Ascend : Type 0
+Rows-Ascend = (r s : Row) → (rowBefore r s ≡ true) ↔ ((r .0 < s .0) ⊎ ((r .0 ≡ s .0) × (r .1 < s .1)))
+
+pub rows-ascend : Rows-Ascend
+rows-ascend = row-before
 
 -- V counts the variables that stand in the pattern
 abbrev pub V-Counts : Type 0
