@@ -1,11 +1,12 @@
--- On a site that was read and fits, and a check that is accepted, the chain answers by the solutions: the plan that it runs is the
--- planner's, whose numbers are its bytes, so questions 18 to 20 are never answered no.
-use Prim.Native.Nat.{ℕ, zero, suc, _*_, _≤_, _<_}
+-- The chain keeps a refusal. On a site that was read and fits, and a check that is accepted, it answers by the solutions: the plan that
+-- it runs is the planner's, whose numbers are its bytes, so questions 18 to 20 are never answered no.
+use Prim.Native.Nat.{ℕ, zero, suc, _+_, _-_, _*_, _≤_, _<_}
 use native.Mathlib.Omega.{arith}
 use mathlib.Core.Path.{_≡_, refl, sym, ap, _∙_}
 use mathlib.Core.Bool.{true}
 use mathlib.Core.List.{List, [], _∷_, _++_}
 use lib.ListN.{length, take, drop, replicate, length-replicate}
+use lib.Seq.{take-append-add}
 use lib.Dec.{eqb}
 use borrow.Author.Tests.{ltb-true, lt-ltb, eqb-true}
 use Rattle.model.specs.Lists.{all, concatMap}
@@ -20,7 +21,7 @@ use Rattle.model.specs.Plan.{Plan, isPlace, isStep, mayChoose, isProper}
 use Rattle.model.specs.PlanFile.{stepNumbers, planBytes}
 use Rattle.model.specs.Planner.{planned}
 use Rattle.model.specs.Solutions.{solutions}
-use Rattle.model.specs.Calls.{Outcome, outcome, either, build, checked, planNumbers, plan, rowsOutcome}
+use Rattle.model.specs.Calls.{Outcome, outcome, either, build, checked, padded, planNumbers, plan, rowsOutcome}
 use Rattle.model.specs.Chain.{chainThreshold, chainStoreWords, isRefused, unlessRefused, stepBytes, planAndRun, chain}
 use Rattle.model.specs.declared.answer.Answer.{Answer}
 use Rattle.model.specs.declared.answer.Answer.the-variants.{Refused}
@@ -49,6 +50,24 @@ front (x ∷ xs) rest (suc n) h = ap (λ (l : List ℕ). x ∷ l) (front xs rest
 numbers-length : (plan : Plan) → length (concatMap stepNumbers plan) ≡ 2 * length plan
 numbers-length [] = refl
 numbers-length (x ∷ xs) = let e = numbers-length xs in omega arith
+
+-- zeros stand behind the numbers
+padded-zeros : (n : ℕ) (xs : List ℕ) → length xs ≤ n → padded n xs ≡ xs ++ replicate (n - length xs) 0
+padded-zeros n xs h =
+    let all : n ≡ length xs + (n - length xs) = omega arith in
+    ap (λ (k : ℕ). take k (xs ++ replicate n 0)) all
+    ∙ take-append-add xs (replicate n 0) (n - length xs)
+    ∙ ap (λ (zeros : List ℕ). xs ++ zeros) (fewer-zeros (n - length xs) n (omega arith))
+  where
+    fewer-zeros : (m k : ℕ) → m ≤ k → take m (replicate {A = ℕ} k 0) ≡ replicate m 0
+    fewer-zeros zero k l = refl
+    fewer-zeros (suc m) zero l = absurd (omega arith)
+    fewer-zeros (suc m) (suc k) l = ap (λ (zeros : List ℕ). 0 ∷ zeros) (fewer-zeros m k (omega arith))
+
+pub steps-padded : (plan : Plan) → length plan ≤ mostTriplePatterns
+    → planNumbers plan .steps ≡ concatMap stepNumbers plan ++ replicate (2 * mostTriplePatterns - 2 * length plan) 0
+steps-padded plan few =
+    rw (← numbers-length plan) (padded-zeros (2 * mostTriplePatterns) (concatMap stepNumbers plan) (rw (numbers-length plan) (omega arith)))
 
 module _ (store : Store) (pattern : Pattern) (few : length pattern ≤ mostTriplePatterns) where
   steps-bytes : (plan : Plan) → all (isStep store pattern) plan ≡ true → planBytes plan ≡ concatMap stepNumbers plan

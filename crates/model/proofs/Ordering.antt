@@ -4,7 +4,7 @@ use native.Mathlib.Omega.{arith}
 use mathlib.Core.Path.{_≡_, refl, sym, ap, subst}
 use mathlib.Core.Logic.{_⊎_, inl, inr, ⊎-elim, ⊎-map}
 use mathlib.Core.Bool.{Bool, true, false, not}
-use mathlib.Core.List.{List, [], _∷_, _++_, append-nil, map-map, map-id, List·Memᴰ·head, List·Memᴰ·tail, List·Memᴰ·not-nil, List·Memᴰ·cases-cons, Memᴰ·cast}
+use mathlib.Core.List.{List, [], _∷_, _++_, map, append-nil, map-map, map-id, List·Memᴰ·head, List·Memᴰ·tail, List·Memᴰ·not-nil, List·Memᴰ·cases-cons, Memᴰ·cast}
 use lib.ListN.{length}
 use lib.Seq.{append-snoc}
 use lib.Dec.{eqb, ltb}
@@ -13,7 +13,7 @@ use Rattle.model.specs.Lists.{_∈_, filter, ascends}
 use Rattle.model.specs.Store.{Store}
 use Rattle.model.specs.Pattern.{Pattern, places, tripleAt}
 use Rattle.model.specs.Plan.{placesOf}
-use Rattle.model.specs.Planner.{isJoined, isFixed, termCount, chosenRows, beats, orElse, competitors, bestOf, without, pick, order, planned, termsAt, Competes, Precedes}
+use Rattle.model.specs.Planner.{chooseTable, isJoined, isFixed, termCount, chosenRows, beats, orElse, competitors, bestOf, without, pick, order, planned, termsAt, Competes, Precedes}
 use Rattle.model.specs.declared.pattern.Position.{Position}
 use Rattle.model.specs.declared.pattern.Position.the-variants.{Term, Var}
 use Rattle.model.proofs.Booleans.{not-both, to-false}
@@ -163,6 +163,11 @@ module _ (store : Store) (pattern : Pattern) where
   places-planned : placesOf (planned store pattern) ≡ order store pattern (length pattern) [] (places pattern)
   unfolding planned
   places-planned = simp (map-map, map-id)
+
+  -- each step takes the table chosen for its place
+  pub planned-choices : planned store pattern ≡ map (λ i. record { place = i; choice = chooseTable store pattern i }) (placesOf (planned store pattern))
+  unfolding planned
+  planned-choices = ap (map (λ i. record { place = i; choice = chooseTable store pattern i })) (sym places-planned)
 
   -- the planner's order
   pub ordered : Ordered store pattern [] (places pattern) (placesOf (planned store pattern))

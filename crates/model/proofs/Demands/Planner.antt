@@ -1,26 +1,28 @@
 -- The tables that may be chosen; and the planner: which of them, in which order.
-use Prim.Native.Nat.{ℕ, _+_, _*_, _≤_, _<_}
+use Prim.Native.Nat.{ℕ, _+_, _-_, _*_, _≤_, _<_}
 use native.Mathlib.Numerals.{one-add}
 use mathlib.Core.Path.{_≡_, refl}
 use mathlib.Core.Logic.{_⊎_, ⊎-elim, _↔_}
 use mathlib.Core.Bool.{true, false}
-use mathlib.Core.List.{List, _∷_, _++_, List·Memᴰ·tail}
-use lib.ListN.{length}
-use Rattle.model.specs.Lists.{_∈_}
+use mathlib.Core.List.{List, [], _∷_, _++_, map, List·Memᴰ·tail}
+use lib.ListN.{length, replicate}
+use Rattle.model.specs.Lists.{_∈_, concatMap}
 use Rattle.model.specs.Site.{Row, Site}
 use Rattle.model.specs.Tables.{subject, object, vp, at, Kind, semiJoin, kindAt, kindCount}
 use Rattle.model.specs.Store.{Store}
 use Rattle.model.specs.Pattern.{Pattern, positions, tripleAt, positionAt, fullTable}
-use Rattle.model.specs.Plan.{placesOf, qualifies, reducedTable, chosenTable, mayChoose, Qualifies, StoredChoice, isProper}
+use Rattle.model.specs.Plan.{Plan, placesOf, qualifies, reducedTable, chosenTable, mayChoose, Qualifies, StoredChoice, isProper}
 use Rattle.model.specs.Planner.{tableRows, chooseTable, isJoined, termCount, chosenRows, planned, termsAt, Competes, Precedes}
+use Rattle.model.specs.Calls.{planNumbers}
 use Rattle.model.specs.declared.pattern.Position.the-variants.{Term, Var}
 use Rattle.model.specs.declared.pattern.TriplePattern.{TriplePattern}
 use Rattle.model.proofs.Booleans.{not-both}
 use Rattle.model.proofs.Places.{qualifying, qualified}
 use Rattle.model.proofs.MayChoose.{chosen-reduced, may-choose, may-be-chosen, joined-exactly}
 use Rattle.model.proofs.Choosing.{choice-order, chosen-table}
-use Rattle.model.proofs.Ordering.{count-terms, picks}
+use Rattle.model.proofs.Ordering.{count-terms, planned-choices, picks}
 use Rattle.model.proofs.ProperPlan.{planned-proper}
+use Rattle.model.proofs.ChainRows.{steps-padded}
 
 -- ==== The tables that may be chosen
 
@@ -137,6 +139,25 @@ planner-order store pattern before after i e =
       (λ j m c d. p .unbeaten j (List·Memᴰ·tail m) c d),
       λ apart j m. ⊎-elim (λ joined. not-both joined apart) (λ none. none j (List·Memᴰ·tail m)) (p .competes),
     )
+
+-- each step takes the table chosen for its place
+abbrev pub Plan-Choices : Type 0
+Plan-Choices =
+    (store : Store) (pattern : Pattern)
+    → planned store pattern ≡ map (λ i. record { place = i; choice = chooseTable store pattern i }) (placesOf (planned store pattern))
+
+pub planner-choices : Plan-Choices
+planner-choices = planned-choices
+
+-- at most eight steps, place and choice, handed back with their count; steps past the count are 0
+abbrev pub Plan-Numbers : Type 0
+Plan-Numbers =
+    (plan : Plan) → length plan ≤ 8
+    → (planNumbers plan .count ≡ length plan)
+    × (planNumbers plan .steps ≡ concatMap (λ x. x .place ∷ x .choice ∷ []) plan ++ replicate (16 - 2 * length plan) 0)
+
+pub plan-numbers : Plan-Numbers
+plan-numbers plan few = (refl, steps-padded plan few)
 
 -- the plan is proper: so its bytes are read back as that plan
 abbrev pub Plan-Is-Proper : Type 0
