@@ -172,6 +172,20 @@ module _ {A : Type 0} (before : A → A → Bool) where
   ascends-cons x [] h e = refl
   ascends-cons x (y ∷ ys) h e = and-make (h y (List·Memᴰ·head refl)) e
 
+  -- in words: each comes before the next
+  pub next-after : (l : List A) → ascends before l ≡ true → (front back : List A) (x y : A) → l ≡ front ++ x ∷ y ∷ back → before x y ≡ true
+  next-after l h [] back x y e = and-cases (before x y) (ascends before (y ∷ back)) (sym (ap (ascends before) e) ∙ h) .0
+  next-after l h (z ∷ front) back x y e =
+      next-after (front ++ x ∷ y ∷ back)
+      (and-cases (belowFirst before z (front ++ x ∷ y ∷ back)) (ascends before (front ++ x ∷ y ∷ back)) (sym (ap (ascends before) e) ∙ h) .1)
+      front back x y refl
+
+  pub each-after : (l : List A) → ((front back : List A) (x y : A) → l ≡ front ++ x ∷ y ∷ back → before x y ≡ true) → ascends before l ≡ true
+  each-after [] h = refl
+  each-after (x ∷ []) h = refl
+  each-after (x ∷ y ∷ ys) h =
+      and-make (h [] ys x y refl) (each-after (y ∷ ys) (λ front back u v e. h (x ∷ front) back u v (ap (λ (l : List A). x ∷ l) e)))
+
   module _ (order : IsOrder before) where
     -- the first comes before each other
     pub first-before : {y : A} (x : A) (xs : List A) → ascends before (x ∷ xs) ≡ true → y ∈ xs → before x y ≡ true

@@ -1,9 +1,10 @@
 -- V counts the variables of an accepted pattern.
 use Prim.Native.Nat.{ℕ, zero, suc, _+_, _≤_}
 use native.Mathlib.Omega.{arith}
-use mathlib.Core.Path.{_≡_, refl, sym, ap, subst}
+use mathlib.Core.Path.{_≡_, refl, ap}
+use mathlib.Core.Logic.{_↔_}
 use mathlib.Core.Bool.{Bool, true, false, false≢true}
-use mathlib.Core.List.{[], List·Memᴰ·head, List·Memᴰ·tail}
+use mathlib.Core.List.{[], List·Memᴰ·head, List·Memᴰ·tail, Memᴰ·cast}
 use lib.ListN.{length}
 use lib.Dec.{ltb}
 use borrow.Author.Tests.{ltb-true, ltb-false, lt-ltb, eqb-true, eq-eqb}
@@ -21,16 +22,21 @@ pub is-variable : (v : ℕ) (x : Position) → sameVariable (Var v) x ≡ true �
 is-variable v (Term t) h = absurd (false≢true h)
 is-variable v (Var w) h = ap Var (eqb-true v w h)
 
+pub stands-exactly : (pattern : Pattern) (v : ℕ) → (stands pattern v ≡ true) ↔ ((q : TriplePattern) × (q ∈ pattern) × (Var v ∈ positions q))
+stands-exactly pattern v = (from, λ s. into-any (sameVariable (Var v)) (into-concatMap positions (s .1) (s .2)) (eq-eqb v v refl))
+  where
+    from : stands pattern v ≡ true → (q : TriplePattern) × (q ∈ pattern) × (Var v ∈ positions q)
+    from h =
+        let x = from-any (sameVariable (Var v)) (concatMap positions pattern) h in
+        let q = from-concatMap positions pattern (x .1) in
+        (q .0, q .1, Memᴰ·cast (is-variable v (x .0) (x .2)) (q .2))
+
 module _ (site : Site) (pattern : Pattern) (accepted : isAccepted site pattern ≡ true) where
   stands-below : (v : ℕ) → stands pattern v ≡ ltb v (width pattern)
   stands-below v = bool-ext (stands pattern v) (ltb v (width pattern)) into from
     where
       into : stands pattern v ≡ true → ltb v (width pattern) ≡ true
-      into h =
-          let x = from-any (sameVariable (Var v)) (concatMap positions pattern) h in
-          let q = from-concatMap positions pattern (x .1) in
-          let m : Var v ∈ positions (q .0) = subst (λ y. y ∈ positions (q .0)) (sym (is-variable v (x .0) (x .2))) (q .2) in
-          lt-ltb v (width pattern) (variable-below pattern (q .1) m)
+      into h = let q = stands-exactly pattern v .0 h in lt-ltb v (width pattern) (variable-below pattern (q .1) (q .2))
 
       in-positions : (q : TriplePattern) → Var v ∈ columns q → Var v ∈ positions q
       in-positions q (List·Memᴰ·head e) = List·Memᴰ·head e
@@ -39,7 +45,7 @@ module _ (site : Site) (pattern : Pattern) (accepted : isAccepted site pattern �
       from : ltb v (width pattern) ≡ true → stands pattern v ≡ true
       from h =
           let q = variable-named site pattern accepted v (ltb-true v (width pattern) h) in
-          into-any (sameVariable (Var v)) (into-concatMap positions (q .1) (in-positions (q .0) (q .2))) (eq-eqb v v refl)
+          stands-exactly pattern v .1 (q .0, q .1, in-positions (q .0) (q .2))
 
   counted : (a k : ℕ) → a ≤ width pattern → width pattern ≤ a + k → a + length (filter (stands pattern) (countUp a k)) ≡ width pattern
   counted a zero l h = omega arith

@@ -2,15 +2,15 @@
 use Prim.Native.Nat.{ℕ, _*_, _≤_, _<_}
 use mathlib.Core.Path.{_≡_}
 use mathlib.Core.Logic.{_⊎_, _↔_}
-use mathlib.Core.Bool.{true, false}
-use mathlib.Core.List.{List, []}
+use mathlib.Core.Bool.{Bool, true, false}
+use mathlib.Core.List.{List, [], _∷_, _++_}
 use lib.ListN.{length}
 use Rattle.model.specs.Lists.{_∈_, ascends, filter, below, lexicographic, LowerAtFirst}
 use Rattle.model.specs.Reader.{gives}
 use Rattle.model.specs.Site.{Row, rowBefore, Site, isSite, IsFact}
 use Rattle.model.specs.Tables.{vp, at, Kind, semiJoin, isStored}
 use Rattle.model.specs.Store.{storeAt}
-use Rattle.model.specs.Pattern.{Pattern, mostVariables, width, isAccepted, stands, fullTable}
+use Rattle.model.specs.Pattern.{Pattern, mostVariables, positions, width, isAccepted, stands, fullTable}
 use Rattle.model.specs.PatternFile.{readPattern}
 use Rattle.model.specs.Plan.{Plan, qualifies, reducedTable}
 use Rattle.model.specs.PlanFile.{readPlan}
@@ -18,11 +18,13 @@ use Rattle.model.specs.Solutions.{IsSolution, solutions}
 use Rattle.model.specs.Components.{ComponentsSolved}
 use Rattle.model.specs.Join.{joinRows}
 use Rattle.model.specs.Calls.{plan, noneByCounts}
-use Rattle.model.proofs.Order.{row-before, from-lexicographic, into-lexicographic}
+use Rattle.model.specs.declared.pattern.Position.the-variants.{Var}
+use Rattle.model.specs.declared.pattern.TriplePattern.{TriplePattern}
+use Rattle.model.proofs.Order.{row-before, next-after, each-after, from-lexicographic, into-lexicographic}
 use Rattle.model.proofs.Partition.{vp-fact, fact-vp, vp-ascends}
 use Rattle.model.proofs.SemiJoins.{into-semi-join, from-semi-join, semi-join-ascends}
 use Rattle.model.proofs.Patterns.{pattern-limit}
-use Rattle.model.proofs.Width.{width-counts}
+use Rattle.model.proofs.Width.{stands-exactly, width-counts}
 use Rattle.model.proofs.Places.{not-against-itself, empty-reduced, empty-full}
 use Rattle.model.proofs.MayChoose.{stored-exactly}
 use Rattle.model.proofs.Solutions.{solutions-ascend, solutions-sound, solutions-complete}
@@ -35,7 +37,7 @@ use Rattle.model.proofs.Calls.{none-by-counts}
 -- ==== Demand 2. The answer to an accepted check holds exactly the solutions of its basic graph pattern over the site, as SPARQL 1.1
 -- defines them, each once, in ascending order; and the tables hold exactly the semi-joins of the S2RDF paper.
 
--- the list of solutions strictly ascends, and a row is in it exactly if it is a solution (that a run writes this list: demand-1-run)
+-- the list of solutions strictly ascends, and a row is in it exactly if it is a solution (that a run writes this list: demand-1-ran)
 abbrev pub Solutions-Are-Listed : Type 0
 Solutions-Are-Listed =
     (site : Site) (bytes : List ℕ) (pattern : Pattern) → readPattern site bytes ≡ gives pattern
@@ -46,6 +48,15 @@ demand-2-solutions site bytes pattern r = (
   solutions-ascend site pattern,
   λ row. (solutions-sound site pattern row, solutions-complete site pattern (pattern-accepted site bytes pattern r) row),
 )
+
+-- ascending: each comes before the next
+abbrev pub Ascends-Exactly : Type 1
+Ascends-Exactly =
+    (A : Type 0) (before : A → A → Bool) (l : List A)
+    → (ascends before l ≡ true) ↔ ((front back : List A) (x y : A) → l ≡ front ++ x ∷ y ∷ back → before x y ≡ true)
+
+pub ascends-exactly : Ascends-Exactly
+ascends-exactly A before l = (next-after before l, each-after before l)
 
 -- ascending by first differing word
 abbrev pub Words-Ascend : Type 0
@@ -61,14 +72,15 @@ Rows-Ascend = (r s : Row) → (rowBefore r s ≡ true) ↔ ((r .0 < s .0) ⊎ ((
 pub rows-ascend : Rows-Ascend
 rows-ascend = row-before
 
--- V counts the variables that stand in the pattern
+-- V counts the variables that stand in the pattern, in some position of some triple pattern
 abbrev pub V-Counts : Type 0
 V-Counts =
     (site : Site) (bytes : List ℕ) (pattern : Pattern) → readPattern site bytes ≡ gives pattern
-    → width pattern ≡ length (filter (stands pattern) (below mostVariables))
+    → (width pattern ≡ length (filter (stands pattern) (below mostVariables)))
+    × ((v : ℕ) → (stands pattern v ≡ true) ↔ ((q : TriplePattern) × (q ∈ pattern) × (Var v ∈ positions q)))
 
 pub v-counts : V-Counts
-v-counts site bytes pattern r = width-counts site pattern (pattern-accepted site bytes pattern r)
+v-counts site bytes pattern r = (width-counts site pattern (pattern-accepted site bytes pattern r), stands-exactly pattern)
 
 -- VP of p is the set of (s, o) with (s, p, o) in the site, ascending and each once
 abbrev pub VP-Is-Exact : Type 0
