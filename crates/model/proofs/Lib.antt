@@ -7,6 +7,8 @@ pub mod Sorting
 pub mod Growing
 pub mod Readers
 pub mod Numbers
+pub mod Questions
+pub mod RefusedElements
 pub mod SiteFile
 pub mod PatternFile
 pub mod Patterns

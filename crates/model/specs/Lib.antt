@@ -18,4 +18,5 @@ pub mod Calls
 pub mod Answers
 pub mod Chain
 pub mod Text
+pub mod Questions
 pub mod Components

@@ -1,0 +1,98 @@
+-- A declaration, a row, a triple pattern and a step: each is refused exactly where a line of specs/Questions holds, with its number.
+use Prim.Native.Nat.{ℕ, _+_, _≤_, _<_}
+use native.Mathlib.Omega.{arith}
+use mathlib.Core.Path.{_≡_, refl, sym, ap, _∙_}
+use mathlib.Core.Logic.{_⊎_, inl, inr, _↔_}
+use mathlib.Core.Bool.{Bool, true, false, _&&_, _||_}
+use mathlib.Core.List.{List, [], _∷_, _++_}
+use lib.Dec.{eqb, ltb, leb}
+use borrow.Author.Tests.{ltb-true, ltb-false, lt-ltb, le-ltb, leb-true, leb-false, le-leb, lt-leb, eqb-true, eqb-false, eq-eqb, ne-eqb}
+use Rattle.model.specs.Lists.{aboveLast}
+use Rattle.model.specs.Reader.{refused, gives, Reader, after, ask}
+use Rattle.model.specs.Numbers.{mostTerm, isTerm, number}
+use Rattle.model.specs.Site.{Row, rowBefore, mostRows}
+use Rattle.model.specs.SiteFile.{Declaration, declaredTerms, declaredTotal, declaration, row}
+use Rattle.model.specs.Questions.{NoNumber, Begins, IsLast, PredicateIsAbove, PredicateNotAbove, DeclarationRefused, RowNotAbove, RowRefused}
+use Rattle.model.specs.Questions.DeclarationRefused.{predicate-not-whole, predicate-not-above, count-not-whole, total-too-large}
+use Rattle.model.proofs.Booleans.{and-cases, and-make, not-both}
+use Rattle.model.proofs.Growing.{above-snoc}
+use Rattle.model.proofs.Questions.{gives≢refused, begins, no-number, by-number, by-ask}
+
+-- ---- tests that fail
+
+pub and-fails : (a b : Bool) → (a && b) ≡ false → (a ≡ false) ⊎ ((a ≡ true) × (b ≡ false))
+and-fails true b h = inr (refl, h)
+and-fails false b h = inl refl
+
+pub left-fails : {a : Bool} (b : Bool) → a ≡ false → (a && b) ≡ false
+left-fails b h = rw h refl
+
+pub right-fails : (a : Bool) {b : Bool} → b ≡ false → (a && b) ≡ false
+right-fails true h = h
+right-fails false h = refl
+
+-- ---- the one before
+
+module _ {A : Type 0} (before : A → A → Bool) where
+  above-last : (done : List A) (x : A) → aboveLast before done x ≡ true → (last : A) → IsLast last done → before last x ≡ true
+  above-last done x h last (front, e) = sym (above-snoc before front last x) ∙ sym (ap (λ l. aboveLast before l x) e) ∙ h
+
+  not-above-last : (done : List A) (x : A) → aboveLast before done x ≡ false → (last : A) × IsLast last done × (before last x ≡ false)
+  not-above-last [] x h = not-both refl h
+  not-above-last (y ∷ []) x h = (y, ([], refl), h)
+  not-above-last (y ∷ z ∷ zs) x h = let r = not-above-last (z ∷ zs) x h in (r .0, (y ∷ r .1 .0, ap (λ l. y ∷ l) (r .1 .1)), r .2)
+
+  last-below : (done : List A) (x : A) → ((last : A) → IsLast last done → before last x ≡ true) → aboveLast before done x ≡ true
+  last-below [] x h = refl
+  last-below (y ∷ []) x h = h y ([], refl)
+  last-below (y ∷ z ∷ zs) x h = last-below (z ∷ zs) x (λ last l. h last (y ∷ l .0, ap (λ l. y ∷ l) (l .1)))
+
+  last-not-below : (done : List A) (x last : A) → IsLast last done → before last x ≡ false → aboveLast before done x ≡ false
+  last-not-below done x last (front, e) h = ap (λ l. aboveLast before l x) e ∙ above-snoc before front last x ∙ h
+
+-- ---- a declaration
+
+module _ (done : List Declaration) where
+  abbrev isAbove : ℕ → Bool
+  isAbove p = isTerm p && aboveLast ltb (declaredTerms done) p
+
+  is-above : (p : ℕ) → (isAbove p ≡ true) ↔ PredicateIsAbove done p
+  is-above p = (
+    (λ h.
+        let c = and-cases (isTerm p) (aboveLast ltb (declaredTerms done) p) h in
+        (leb-true p mostTerm (c .0), λ last l. ltb-true last p (above-last ltb (declaredTerms done) p (c .1) last l))),
+    λ (k : PredicateIsAbove done p). and-make (le-leb p mostTerm (k .0)) (last-below ltb (declaredTerms done) p (λ last l. lt-ltb last p (k .1 last l))),
+  )
+
+  not-above : (p : ℕ) → (isAbove p ≡ false) ↔ PredicateNotAbove done p
+  not-above p = ((λ h. to (and-fails (isTerm p) (aboveLast ltb (declaredTerms done) p) h)), from)
+    where
+      to : (isTerm p ≡ false) ⊎ ((isTerm p ≡ true) × (aboveLast ltb (declaredTerms done) p ≡ false)) → PredicateNotAbove done p
+      to (inl h) = inl (leb-false p mostTerm h)
+      to (inr h) = let l = not-above-last ltb (declaredTerms done) p (h .1) in inr (l .0, l .1, ltb-false (l .0) p (l .2))
+
+      from : PredicateNotAbove done p → isAbove p ≡ false
+      from (inl h) = left-fails (aboveLast ltb (declaredTerms done) p) (lt-leb p mostTerm h)
+      from (inr (last, l, h)) = right-fails (isTerm p) (last-not-below ltb (declaredTerms done) p last l (le-ltb last p h))
+
+  module _ (bytes : List ℕ) where
+    declaration-exactly : (n : ℕ) → (declaration done bytes ≡ refused n) ↔ DeclarationRefused done bytes n
+    unfolding declaration after ask
+    declaration-exactly n = (to, from)
+      where
+        P : ℕ → Type 0
+        P = DeclarationRefused done bytes
+
+        to : declaration done bytes ≡ refused n → P n
+        to h =
+            by-number P 2 bytes _ h predicate-not-whole
+            λ p rest b h. by-ask P 4 (isAbove p) rest _ h (λ f. predicate-not-above b (not-above p .0 f))
+            λ f h. by-number P 2 rest _ h (count-not-whole b (is-above p .0 f))
+            λ c end d h. by-ask P 5 (leb (declaredTotal done + c) mostRows) end _ h (λ g. total-too-large b (is-above p .0 f) d (leb-false (declaredTotal done + c) mostRows g))
+            λ _ h. gives≢refused h
+
+        from : {n : ℕ} → DeclarationRefused done bytes n → declaration done bytes ≡ refused n
+        from (predicate-not-whole broken) = rw (no-number 2 bytes broken) refl
+        from (predicate-not-above {p} b k) = rw (begins 2 b, not-above p .1 k) refl
+        from (count-not-whole {p} {rest} b k broken) = rw (begins 2 b, is-above p .1 k, no-number 2 rest broken) refl
+        from (total-too-large {p} {c} b k d l) = rw (begins 2 b, is-above p .1 k, begins 2 d, lt-leb (declaredTotal done + c) mostRows l) refl
