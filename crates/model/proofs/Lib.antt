@@ -8,7 +8,6 @@ pub mod Growing
 pub mod Readers
 pub mod Numbers
 pub mod Questions
-pub mod RefusedElements
 pub mod SiteFile
 pub mod PatternFile
 pub mod Patterns
@@ -18,6 +17,7 @@ pub mod SemiJoins
 pub mod Places
 pub mod MayChoose
 pub mod PlanFile
+pub mod RefusedElements
 pub mod Join
 pub mod Plans
 pub mod Equation

@@ -24,7 +24,7 @@ use Rattle.model.proofs.Numbers.{number-written, number-gives, bytes-bo
 
 -- ---- positions
 
-position-number : (n : ℕ) → positionNumber (positionOf n) ≡ n
+pub position-number : (n : ℕ) → positionNumber (positionOf n) ≡ n
 position-number n = go (eqb (n % 2) 0) refl
   where
     go : (b : Bool) → eqb (n % 2) 0 ≡ b → positionNumber (cond b (Term (n / 2)) (Var (n / 2))) ≡ n
@@ -53,7 +53,7 @@ unfolding askPosition
 position-asks n (Term t) = record { as-ask = λ bytes. (15, refl) }
 position-asks n (Var v) = record { as-ask = λ bytes. (16, refl) }
 
-predicate-asks : (site : Site) (x : Position) → Asks (askPredicate site x) (isPredicate site x)
+pub predicate-asks : (site : Site) (x : Position) → Asks (askPredicate site x) (isPredicate site x)
 unfolding askPredicate after ask
 predicate-asks site (Term t) = record { as-ask = λ bytes. both bytes (isTerm t) (isDeclared site t) }
   where

@@ -12,7 +12,7 @@ use Rattle.model.specs.Lists.{isEmpty}
 use Rattle.model.specs.Reader.{Reply, refused, gives, Reader, after, ask, allRead, wholeFile, repeated}
 use Rattle.model.specs.Numbers.{Sized, numberIn, orRefused, number}
 use Rattle.model.specs.Questions.{NoNumber, Begins, FirstRefused}
-use Rattle.model.proofs.Readers.{refused≢gives, PartRead, next-refused}
+use Rattle.model.proofs.Readers.{refused≢gives, Asks, PartRead, next-refused}
 
 -- ---- one question
 
@@ -56,6 +56,15 @@ module _ (P : ℕ → Type 0) {B : Type 0} {n : ℕ} where
   unfolding after ask
   by-ask own true bytes next h f g = g refl h
   by-ask own false bytes next h f g = let same : n ≡ own = cc in rw same (f refl)
+
+  pub by-question-of : {question : Reader (Unit {0})} {b : Bool} → Asks question b → (bytes : List ℕ) (next : Unit {0} → Reader B)
+      → after (question bytes) next ≡ refused n → (question bytes ≡ refused n → P n) → (b ≡ true → next tt bytes ≡ refused n → P n) → P n
+  unfolding after ask
+  by-question-of {question} {b} asks bytes next h f g = go b refl (asks .as-ask bytes)
+    where
+      go : (c : Bool) → b ≡ c → (m : ℕ) × (question bytes ≡ ask m b bytes) → P n
+      go true e (m, q) = g e (rw (q, e) at h)
+      go false e (m, q) = f (rw (q, e) (same-number (rw (q, e) at h)))
 
 -- ---- a whole file
 

@@ -14,6 +14,7 @@ use Rattle.model.specs.Site.{Row, rowBefore, mostRows}
 use Rattle.model.specs.SiteFile.{Declaration, declaredTerms, declaredTotal, declaration, row}
 use Rattle.model.specs.Questions.{NoNumber, Begins, IsLast, PredicateIsAbove, PredicateNotAbove, DeclarationRefused, RowNotAbove, RowRefused}
 use Rattle.model.specs.Questions.DeclarationRefused.{predicate-not-whole, predicate-not-above, count-not-whole, total-too-large}
+use Rattle.model.specs.Questions.RowRefused.{subject-not-whole, subject-no-term, object-not-whole, object-no-term, row-not-above}
 use Rattle.model.proofs.Booleans.{and-cases, and-make, not-both}
 use Rattle.model.proofs.Growing.{above-snoc}
 use Rattle.model.proofs.Questions.{gives≢refused, begins, no-number, by-number, by-ask}
@@ -30,6 +31,10 @@ left-fails b h = rw h refl
 pub right-fails : (a : Bool) {b : Bool} → b ≡ false → (a && b) ≡ false
 right-fails true h = h
 right-fails false h = refl
+
+or-fails : (a b : Bool) → (a || b) ≡ false → (a ≡ false) × (b ≡ false)
+or-fails true b h = not-both refl h
+or-fails false b h = (refl, h)
 
 -- ---- the one before
 
@@ -76,7 +81,7 @@ module _ (done : List Declaration) where
       from (inr (last, l, h)) = right-fails (isTerm p) (last-not-below ltb (declaredTerms done) p last l (le-ltb last p h))
 
   module _ (bytes : List ℕ) where
-    declaration-exactly : (n : ℕ) → (declaration done bytes ≡ refused n) ↔ DeclarationRefused done bytes n
+    pub declaration-exactly : (n : ℕ) → (declaration done bytes ≡ refused n) ↔ DeclarationRefused done bytes n
     unfolding declaration after ask
     declaration-exactly n = (to, from)
       where
@@ -96,3 +101,53 @@ module _ (done : List Declaration) where
         from (predicate-not-above {p} b k) = rw (begins 2 b, not-above p .1 k) refl
         from (count-not-whole {p} {rest} b k broken) = rw (begins 2 b, is-above p .1 k, no-number 2 rest broken) refl
         from (total-too-large {p} {c} b k d l) = rw (begins 2 b, is-above p .1 k, begins 2 d, lt-leb (declaredTotal done + c) mostRows l) refl
+
+-- ---- a row
+
+row-not-before : (r s : Row) → (rowBefore r s ≡ false) ↔ ((s .0 < r .0) ⊎ ((s .0 ≡ r .0) × (s .1 ≤ r .1)))
+row-not-before r s = (to, from)
+  where
+    to : rowBefore r s ≡ false → (s .0 < r .0) ⊎ ((s .0 ≡ r .0) × (s .1 ≤ r .1))
+    to h = go (and-fails (eqb (r .0) (s .0)) (ltb (r .1) (s .1)) (c .1))
+      where
+        c : (ltb (r .0) (s .0) ≡ false) × ((eqb (r .0) (s .0) && ltb (r .1) (s .1)) ≡ false)
+        c = or-fails (ltb (r .0) (s .0)) (eqb (r .0) (s .0) && ltb (r .1) (s .1)) h
+
+        go : (eqb (r .0) (s .0) ≡ false) ⊎ ((eqb (r .0) (s .0) ≡ true) × (ltb (r .1) (s .1) ≡ false)) → (s .0 < r .0) ⊎ ((s .0 ≡ r .0) × (s .1 ≤ r .1))
+        go (inl e) = let a = ltb-false (r .0) (s .0) (c .0) in let b = eqb-false (r .0) (s .0) e in inl (omega arith)
+        go (inr e) = inr (sym (eqb-true (r .0) (s .0) (e .0)), ltb-false (r .1) (s .1) (e .1))
+
+    from : (s .0 < r .0) ⊎ ((s .0 ≡ r .0) × (s .1 ≤ r .1)) → rowBefore r s ≡ false
+    from (inl l) = rw (le-ltb (r .0) (s .0) (omega arith), ne-eqb (r .0) (s .0) (λ e. omega arith)) refl
+    from (inr (e, l)) = rw (le-ltb (r .0) (s .0) (omega arith)) (right-fails (eqb (r .0) (s .0)) (le-ltb (r .1) (s .1) l))
+
+module _ (done : List Row) where
+  row-above : (r : Row) → (aboveLast rowBefore done r ≡ false) ↔ RowNotAbove done r
+  row-above r = (
+    (λ h. let l = not-above-last rowBefore done r h in (l .0, l .1, row-not-before (l .0) r .0 (l .2))),
+    λ (l : RowNotAbove done r). last-not-below rowBefore done r (l .0) (l .1) (row-not-before (l .0) r .1 (l .2)),
+  )
+
+  module _ (bytes : List ℕ) where
+    pub row-exactly : (n : ℕ) → (row done bytes ≡ refused n) ↔ RowRefused done bytes n
+    unfolding row after ask
+    row-exactly n = (to, from)
+      where
+        P : ℕ → Type 0
+        P = RowRefused done bytes
+
+        to : row done bytes ≡ refused n → P n
+        to h =
+            by-number P 2 bytes _ h subject-not-whole
+            λ s rest a h. by-ask P 6 (isTerm s) rest _ h (λ f. subject-no-term a (leb-false s mostTerm f))
+            λ f h. by-number P 2 rest _ h (object-not-whole a (leb-true s mostTerm f))
+            λ o end b h. by-ask P 6 (isTerm o) end _ h (λ g. object-no-term a (leb-true s mostTerm f) b (leb-false o mostTerm g))
+            λ g h. by-ask P 7 (aboveLast rowBefore done (s, o)) end _ h (λ k. row-not-above a (leb-true s mostTerm f) b (leb-true o mostTerm g) (row-above (s, o) .0 k))
+            λ _ h. gives≢refused h
+
+        from : {n : ℕ} → RowRefused done bytes n → row done bytes ≡ refused n
+        from (subject-not-whole broken) = rw (no-number 2 bytes broken) refl
+        from (subject-no-term {s} a l) = rw (begins 2 a, lt-leb s mostTerm l) refl
+        from (object-not-whole {s} {rest} a l broken) = rw (begins 2 a, le-leb s mostTerm l, no-number 2 rest broken) refl
+        from (object-no-term {s} {o} a l b m) = rw (begins 2 a, le-leb s mostTerm l, begins 2 b, lt-leb o mostTerm m) refl
+        from (row-not-above {s} {o} a l b m k) = rw (begins 2 a, le-leb s mostTerm l, begins 2 b, le-leb o mostTerm m, row-above (s, o) .1 k) refl
