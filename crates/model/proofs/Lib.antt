@@ -18,6 +18,7 @@ pub mod Places
 pub mod MayChoose
 pub mod PlanFile
 pub mod RefusedElements
+pub mod RefusedTriples
 pub mod Join
 pub mod Plans
 pub mod Equation

@@ -32,6 +32,12 @@ pub no-number : (n : ℕ) (bytes : List ℕ) → NoNumber bytes → number n byt
 unfolding number
 no-number n bytes h = rw h refl
 
+-- a question behind which nothing is read
+pub by-last : (P : ℕ → Type 0) {n : ℕ} (own : ℕ) (b : Bool) (bytes : List ℕ) → ask own b bytes ≡ refused n → (b ≡ false → P own) → P n
+unfolding ask
+by-last P {n} own true bytes h f = gives≢refused h
+by-last P {n} own false bytes h f = let same : n ≡ own = cc in rw same (f refl)
+
 module _ (P : ℕ → Type 0) {B : Type 0} {n : ℕ} where
   -- one of two readers, one behind the other
   pub by-first : {A : Type 0} (x : Reply (A × List ℕ)) (next : A → Reader B) → after x next ≡ refused n
