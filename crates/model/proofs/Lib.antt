@@ -19,6 +19,7 @@ pub mod MayChoose
 pub mod PlanFile
 pub mod RefusedElements
 pub mod RefusedTriples
+pub mod RefusedFiles
 pub mod Join
 pub mod Plans
 pub mod Equation

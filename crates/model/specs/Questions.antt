@@ -128,7 +128,7 @@ pub data TripleRefused (site : Site) (done : Pattern) (bytes : List ℕ) : ℕ �
 
 pub data PatternRefused (site : Site) (bytes : List ℕ) : ℕ → Type 0 where
   length-not-whole : NoNumber bytes → PatternRefused site bytes 11
-  length-refused : {n : ℕ} {rest : List ℕ} → Begins bytes n rest → (n ≡ 0) ⊎ (8 < n) → PatternRefused site bytes 12
+  length-refused : {k : ℕ} {rest : List ℕ} → Begins bytes k rest → (k ≡ 0) ⊎ (8 < k) → PatternRefused site bytes 12
   triple-refused : {k n : ℕ} {rest : List ℕ} → Begins bytes k rest → 1 ≤ k → k ≤ 8 → FirstRefused (triplePattern site) (TripleRefused site) k rest n → PatternRefused site bytes n
   pattern-not-ended : {pattern : Pattern} {b : ℕ} {rest : List ℕ} → patternFile site bytes ≡ gives (pattern, b ∷ rest) → PatternRefused site bytes 17
 
