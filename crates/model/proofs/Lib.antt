@@ -38,6 +38,7 @@ pub mod Refusals
 pub mod Width
 pub mod Calls
 pub mod Success
+pub mod RefusedCalls
 pub mod Cases
 pub mod ChainRows
 pub mod Answers

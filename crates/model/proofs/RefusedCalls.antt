@@ -1,0 +1,200 @@
+-- A call is refused exactly where a line of specs/Questions holds, with its number: the first question that is answered no.
+use Prim.Native.Nat.{ℕ, _*_, _≤_, _<_}
+use native.Mathlib.Omega.{arith}
+use mathlib.Core.Path.{_≡_, refl, sym, ap, _∙_, subst}
+use mathlib.Core.Logic.{_⊎_, inl, inr, ⊎-elim, _↔_}
+use mathlib.Core.Bool.{Bool, true, false, cond}
+use mathlib.Core.Option.{Option, none, some}
+use mathlib.Core.List.{List, [], _∷_}
+use lib.ListN.{length}
+use lib.Dec.{leb}
+use borrow.Author.Tests.{leb-true, leb-false, le-leb, lt-leb}
+use Rattle.model.specs.Reader.{Reply, refused, gives}
+use Rattle.model.specs.Site.{Site}
+use Rattle.model.specs.SiteFile.{readSite}
+use Rattle.model.specs.Tables.{mostThreshold}
+use Rattle.model.specs.Store.{layout, Holds, IsStore, Store, storeAt, storeOf}
+use Rattle.model.specs.Pattern.{Pattern, width, isAccepted}
+use Rattle.model.specs.PatternFile.{readPattern}
+use Rattle.model.specs.Plan.{Plan}
+use Rattle.model.specs.PlanFile.{readPlan}
+use Rattle.model.specs.Solutions.{solutions}
+use Rattle.model.specs.Calls.{Outcome, outcome, either, question, storeReply, unaltered, filled, build, Check, checkOf, checked, plan, noneByCounts, rowsOutcome, run}
+use Rattle.model.specs.Questions.{SiteRefused, PatternRefused, PlanRefused, BuildRefused, CheckRefused, RunRefused}
+use Rattle.model.specs.Questions.BuildRefused.{threshold-too-large, site-refused, store-too-small}
+use Rattle.model.specs.Questions.CheckRefused.{no-store, pattern-refused}
+use Rattle.model.specs.Questions.RunRefused.{check-refused, plan-refused, rows-too-many}
+use Rattle.model.specs.declared.answer.Answer.{Answer}
+use Rattle.model.specs.declared.answer.Answer.the-variants.{Rows, None, Built, Refused}
+use Rattle.model.specs.declared.answer.Planned.{Planned}
+use Rattle.model.proofs.Booleans.{to-false}
+use Rattle.model.proofs.PatternFile.{pattern-accepted}
+use Rattle.model.proofs.Stores.{store-sound, store-complete}
+use Rattle.model.proofs.Calls.{by-reply, none-by-counts}
+use Rattle.model.proofs.Questions.{gives≢refused, same-number}
+use Rattle.model.proofs.Readers.{refused≢gives}
+use Rattle.model.proofs.RefusedFiles.{site-exactly, pattern-exactly, plan-exactly}
+
+-- ---- a question of a call
+
+-- an answer that is no refusal
+other-answer : {X : Type 0} {n : ℕ} {a : Answer} → a ≡ None → a ≡ Refused n → X
+other-answer e h = let z : _≡_ {A = ℕ} 0 1 = cc in absurd (omega arith)
+
+module _ (P : ℕ → Type 0) {n : ℕ} where
+  this-number : {m : ℕ} → Refused m ≡ Refused n → P m → P n
+  this-number {m} h p = let same : n ≡ m = cc in rw same p
+
+  -- the answer to what follows a reply is refusal n
+  pub by-no : {A : Type 0} (memory : List ℕ) (reply : Reply A) (next : A → Outcome) → either (unaltered memory) reply next .answer ≡ Refused n
+      → ((m : ℕ) → reply ≡ refused m → P m) → ((a : A) → reply ≡ gives a → next a .answer ≡ Refused n → P n) → P n
+  unfolding either
+  by-no memory (refused m) next h f g = this-number h (f m refl)
+  by-no memory (gives a) next h f g = g a refl h
+
+  -- and what follows a question of its own
+  pub by-own : (memory : List ℕ) (own : ℕ) (b : Bool) (next : Unit {0} → Outcome) → either (unaltered memory) (question own b) next .answer ≡ Refused n
+      → (b ≡ false → P own) → (b ≡ true → next tt .answer ≡ Refused n → P n) → P n
+  unfolding either
+  by-own memory own true next h f g = g refl h
+  by-own memory own false next h f g = this-number h (f refl)
+
+-- ---- build
+
+module _ (t : ℕ) (bytes memory : List ℕ) where
+  pub build-exactly : (n : ℕ) → (build t bytes memory .answer ≡ Refused n) ↔ BuildRefused t bytes memory n
+  unfolding build either
+  build-exactly n = (to, from)
+    where
+      P : ℕ → Type 0
+      P = BuildRefused t bytes memory
+
+      to : build t bytes memory .answer ≡ Refused n → P n
+      to h =
+          by-own P memory 1 (leb t mostThreshold) _ h (λ f. threshold-too-large (leb-false t mostThreshold f))
+          λ f h. let low = leb-true t mostThreshold f in by-no P memory (readSite bytes) _ h (λ m e. site-refused low (site-exactly bytes m .0 e))
+          λ site e h. let words = length (layout t site) in
+          by-own P memory 9 (leb words (length memory)) _ h (λ f. store-too-small low e (leb-false words (length memory) f))
+          λ _ h. let z : _≡_ {A = ℕ} 0 1 = cc in absurd (omega arith)
+
+      from : {n : ℕ} → P n → build t bytes memory .answer ≡ Refused n
+      from (threshold-too-large l) = rw (lt-leb t mostThreshold l) refl
+      from (site-refused {n} l r) = rw (le-leb t mostThreshold l, site-exactly bytes n .1 r) refl
+      from (store-too-small {site} l e s) = rw (le-leb t mostThreshold l, e, lt-leb (length (layout t site)) (length memory) s) refl
+
+-- ---- a check over a store
+
+module _ (words bytes : List ℕ) where
+  -- the pattern is read in the site of a store
+  abbrev patternReply : Store → Reply Check
+  patternReply store = either refused (readPattern (store .site) bytes) λ pattern. gives (checkOf store pattern)
+
+  -- what question 10 leads to
+  checked-cases : ((IsStore words → ⊥) × (checked words bytes ≡ refused 10))
+      ⊎ ((store : Store) × Holds words (store .threshold) (store .site) × (checked words bytes ≡ patternReply store))
+  unfolding checked either
+  checked-cases = go (storeOf words) refl
+    where
+      go : (x : Option Store) → storeOf words ≡ x
+          → ((IsStore words → ⊥) × (checked words bytes ≡ refused 10))
+          ⊎ ((store : Store) × Holds words (store .threshold) (store .site) × (checked words bytes ≡ patternReply store))
+      go none e = inl ((λ s. let f = store-complete words (s .0) (s .1) (s .2) in let z : _≡_ {A = ℕ} 0 1 = cc in omega arith), rw e refl)
+      go (some store) e = inr (store, store-sound words store e, rw e refl)
+
+  -- an accepted check is a store and a pattern that is read
+  check-gives : (c : Check) → checked words bytes ≡ gives c
+      → Holds words (c .store .threshold) (c .store .site) × (readPattern (c .store .site) bytes ≡ gives (c .pattern))
+  unfolding either
+  check-gives c h = go checked-cases
+    where
+      read : (store : Store) → Holds words (store .threshold) (store .site) → (x : Reply Pattern) → readPattern (store .site) bytes ≡ x
+          → either refused x (λ pattern. gives (checkOf store pattern)) ≡ gives c
+          → Holds words (c .store .threshold) (c .store .site) × (readPattern (c .store .site) bytes ≡ gives (c .pattern))
+      read store holds (refused m) e f = refused≢gives f
+      read store holds (gives pattern) e f = let same : checkOf store pattern ≡ c = cc in rw (← same) (holds, e)
+
+      go : ((IsStore words → ⊥) × (checked words bytes ≡ refused 10))
+          ⊎ ((store : Store) × Holds words (store .threshold) (store .site) × (checked words bytes ≡ patternReply store))
+          → Holds words (c .store .threshold) (c .store .site) × (readPattern (c .store .site) bytes ≡ gives (c .pattern))
+      go (inl x) = refused≢gives (sym (x .1) ∙ h)
+      go (inr x) = read (x .0) (x .1) (readPattern (x .0 .site) bytes) refl (sym (x .2) ∙ h)
+
+  check-given : {t : ℕ} {site : Site} {pattern : Pattern} → Holds words t site → readPattern site bytes ≡ gives pattern
+      → checked words bytes ≡ gives (checkOf (storeAt t site) pattern)
+  unfolding checked either
+  check-given {t} {site} holds read = rw (store-complete words t site holds, read) refl
+
+  pub check-exactly : (n : ℕ) → (checked words bytes ≡ refused n) ↔ CheckRefused words bytes n
+  unfolding checked either
+  check-exactly n = ((λ h. to checked-cases h), from)
+    where
+      at-pattern : (store : Store) → Holds words (store .threshold) (store .site) → (x : Reply Pattern) → readPattern (store .site) bytes ≡ x
+          → either refused x (λ pattern. gives (checkOf store pattern)) ≡ refused n → CheckRefused words bytes n
+      at-pattern store holds (refused m) e h = pattern-refused holds (pattern-exactly (store .site) bytes n .0 (e ∙ same-number h))
+      at-pattern store holds (gives pattern) e h = gives≢refused h
+
+      to : ((IsStore words → ⊥) × (checked words bytes ≡ refused 10))
+          ⊎ ((store : Store) × Holds words (store .threshold) (store .site) × (checked words bytes ≡ patternReply store))
+          → checked words bytes ≡ refused n → CheckRefused words bytes n
+      to (inl x) h = let e = x .1 in let same : n ≡ 10 = cc in rw same (no-store (x .0))
+      to (inr x) h = at-pattern (x .0) (x .1) (readPattern (x .0 .site) bytes) refl (sym (x .2) ∙ h)
+
+      from : {n : ℕ} → CheckRefused words bytes n → checked words bytes ≡ refused n
+      from (no-store f) = ⊎-elim (λ x. x .1) (λ x. absurd (f (x .0 .threshold, x .0 .site, x .1))) checked-cases
+      from (pattern-refused {t} {n} {site} holds r) = rw (store-complete words t site holds, pattern-exactly site bytes n .1 r) refl
+
+  pub plan-call-exactly : (n : ℕ) → (plan words bytes .answer ≡ Refused n) ↔ CheckRefused words bytes n
+  unfolding plan either
+  plan-call-exactly n = (
+    (λ h. by-reply (λ (p : Planned). p .answer ≡ Refused n → CheckRefused words bytes n) _ (checked words bytes) _
+      (λ m e h. this-number (CheckRefused words bytes) h (check-exactly m .0 e)) (λ check e h. let z : _≡_ {A = ℕ} 0 1 = cc in absurd (omega arith)) h),
+    λ r. rw (check-exactly n .1 r) refl,
+  )
+
+-- ---- run
+
+-- 21 is only asked of rows, and where there are none nothing exceeds the memory
+rows-exactly : (v : ℕ) (rows : List (List ℕ)) (memory : List ℕ) (n : ℕ)
+    → (rowsOutcome v rows memory .answer ≡ Refused n) ↔ ((n ≡ 21) × (length memory < length rows * v))
+unfolding rowsOutcome either
+rows-exactly v [] memory n = ((λ h. other-answer refl h), λ r. absurd (omega arith))
+rows-exactly v (r ∷ rs) memory n = (
+  (λ h. by-own (λ n. (n ≡ 21) × (length memory < length (r ∷ rs) * v)) memory 21 (leb (length (r ∷ rs) * v) (length memory)) _ h
+    (λ f. (refl, leb-false (length (r ∷ rs) * v) (length memory) f)) (λ _ h. let z : _≡_ {A = ℕ} 0 1 = cc in absurd (omega arith))),
+  λ (x : (n ≡ 21) × (length memory < length (r ∷ rs) * v)). rw (lt-leb (length (r ∷ rs) * v) (length memory) (x .1), x .0) refl,
+)
+
+-- None from the counts is no refusal
+by-counts : {X : Type 0} {n : ℕ} (memory : List ℕ) (o : Outcome) (b : Bool) → cond b (outcome None memory) o .answer ≡ Refused n → (o .answer ≡ Refused n → X) → X
+by-counts memory o true h f = other-answer refl h
+by-counts memory o false h f = f h
+
+-- and is not said where there are rows
+counts-say-more : (site : Site) (pattern : Pattern) → isAccepted site pattern ≡ true → (memory : List ℕ)
+    → length memory < length (solutions site pattern) * width pattern → noneByCounts site pattern ≡ false
+counts-say-more site pattern accepted memory l = to-false (noneByCounts site pattern) λ h.
+    let few : length (solutions site pattern) ≡ 0 = ap length (none-by-counts site pattern accepted h) in
+    omega (arith, rw few at l)
+
+module _ (words bytes steps memory : List ℕ) where
+  pub run-exactly : (n : ℕ) → (run words bytes steps memory .answer ≡ Refused n) ↔ RunRefused words bytes steps memory n
+  unfolding run either
+  run-exactly n = (to, from)
+    where
+      P : ℕ → Type 0
+      P = RunRefused words bytes steps memory
+
+      to : run words bytes steps memory .answer ≡ Refused n → P n
+      to h =
+          by-no P memory (checked words bytes) _ h (λ m e. check-refused (check-exactly words bytes m .0 e))
+          λ c e h. let a = check-gives words bytes c e in
+          by-no P memory (readPlan (c .store) (c .pattern) steps) _ h (λ m e. plan-refused (a .0) (a .1) (plan-exactly (c .store) (c .pattern) steps m .0 e))
+          λ plan e h. by-counts memory _ (noneByCounts (c .store .site) (c .pattern)) h
+          (λ h. let r = rows-exactly (width (c .pattern)) (solutions (c .store .site) (c .pattern)) memory n .0 h in rw (r .0) (rows-too-many (a .0) (a .1) e (r .1)))
+
+      from : {n : ℕ} → P n → run words bytes steps memory .answer ≡ Refused n
+      from (check-refused {n} r) = rw (check-exactly words bytes n .1 r) refl
+      from (plan-refused {t} {n} {site} {pattern} holds read r) = rw (check-given words bytes holds read, plan-exactly (storeAt t site) pattern steps n .1 r) refl
+      from (rows-too-many {t} {site} {pattern} {plan} holds read proper l) =
+          rw (check-given words bytes holds read, proper, counts-say-more site pattern (pattern-accepted site bytes pattern read) memory l)
+          (rows-exactly (width pattern) (solutions site pattern) memory 21 .1 (refl, l))
