@@ -39,6 +39,7 @@ pub mod Width
 pub mod Calls
 pub mod Success
 pub mod RefusedCalls
+pub mod ExactNumbers
 pub mod Cases
 pub mod ChainRows
 pub mod Answers

@@ -114,7 +114,7 @@ triples-grow site = record { start = refl; snoc = triples-snoc site 0 }
 
 -- ---- the file
 
-pattern-read : (site : Site) (bytes : List ℕ) {pattern : Pattern} {rest : List ℕ} → patternFile site bytes ≡ gives (pattern, rest)
+pub pattern-read : (site : Site) (bytes : List ℕ) {pattern : Pattern} {rest : List ℕ} → patternFile site bytes ≡ gives (pattern, rest)
     → (isAccepted site pattern ≡ true) × Front bytes (patternBytes pattern) rest
 unfolding patternFile isAccepted patternBytes
 pattern-read site bytes {pattern} h =
@@ -125,7 +125,7 @@ pattern-read site bytes {pattern} h =
     (and-make few (q .1), rw (q .0) (front-then (n .2) (q .2)))
 
 -- what is written is read, whatever stands behind it
-pattern-back : (site : Site) (pattern : Pattern) (rest : List ℕ) → isAccepted site pattern ≡ true
+pub pattern-back : (site : Site) (pattern : Pattern) (rest : List ℕ) → isAccepted site pattern ≡ true
     → patternFile site (patternBytes pattern ++ rest) ≡ gives (pattern, rest)
 unfolding patternFile isAccepted patternBytes after ask
 pattern-back site pattern rest e =

@@ -137,7 +137,7 @@ tables-written (t ∷ more) done rest g =
 pub declared-site : (site : Site) → declaredProper (declarations site) ≡ (predicatesProper site && leb (rowTotal site) mostRows)
 declared-site site = rw (map-map, all-map, sum-map) refl
 
-site-read : (bytes : List ℕ) {site : Site} {rest : List ℕ} → siteFile bytes ≡ gives (site, rest)
+pub site-read : (bytes : List ℕ) {site : Site} {rest : List ℕ} → siteFile bytes ≡ gives (site, rest)
     → (isSite site ≡ true) × Front bytes (siteBytes site) rest
 unfolding siteFile isSite siteBytes
 site-read bytes {site} h =
@@ -152,7 +152,7 @@ site-read bytes {site} h =
     (and-make (and-make few (c .1)) (and-make (c .0) (t .1)), rw (count, t .0) (front-then (p .2) (front-then (ds .2) (t .2))))
 
 -- what is written is read, whatever stands behind it
-site-back : (site : Site) (rest : List ℕ) → isSite site ≡ true → siteFile (siteBytes site ++ rest) ≡ gives (site, rest)
+pub site-back : (site : Site) (rest : List ℕ) → isSite site ≡ true → siteFile (siteBytes site ++ rest) ≡ gives (site, rest)
 unfolding siteFile isSite siteBytes after ask
 site-back site rest e =
     let few = leb (length site) mostPredicates in

@@ -1,0 +1,115 @@
+-- Exactly when 1, 8, 9, 10, 12, 17 and 21 are given: each number stands on one line only.
+use Prim.Native.Nat.{ℕ, _*_, _≤_, _<_}
+use native.Mathlib.Omega.{arith}
+use mathlib.Core.Path.{_≡_, refl, sym, ap, _∙_}
+use mathlib.Core.Logic.{_⊎_, inl, inr, ⊎-elim, _↔_}
+use mathlib.Core.Bool.{true}
+use mathlib.Core.List.{List, _∷_, _++_}
+use lib.ListN.{length}
+use Rattle.model.specs.Reader.{refused, gives}
+use Rattle.model.specs.Numbers.{areBytes}
+use Rattle.model.specs.Site.{Row, Site, isSite}
+use Rattle.model.specs.SiteFile.{Declaration, siteFile, readSite, siteBytes}
+use Rattle.model.specs.Store.{layout, Holds, IsStore, storeAt}
+use Rattle.model.specs.Pattern.{Pattern, width, isAccepted}
+use Rattle.model.specs.PatternFile.{patternFile, readPattern, patternBytes}
+use Rattle.model.specs.Plan.{Plan}
+use Rattle.model.specs.PlanFile.{readPlan}
+use Rattle.model.specs.Solutions.{solutions}
+use Rattle.model.specs.Answers.{Between}
+use Rattle.model.specs.Calls.{build, plan, run}
+use Rattle.model.specs.Questions.{Begins, DeclarationRefused, RowRefused, SiteRefused, PositionRefused, PredicateRefused, TripleRefused, PatternRefused, BuildRefused, CheckRefused, RunRefused}
+use Rattle.model.specs.Questions.DeclarationRefused.{predicate-not-whole, predicate-not-above, count-not-whole, total-too-large}
+use Rattle.model.specs.Questions.RowRefused.{subject-not-whole, subject-no-term, object-not-whole, object-no-term, row-not-above}
+use Rattle.model.specs.Questions.SiteRefused.{predicates-not-whole, predicates-too-many, declaration-refused, row-refused, site-not-ended}
+use Rattle.model.specs.Questions.PositionRefused.{no-term, out-of-range, out-of-order}
+use Rattle.model.specs.Questions.PredicateRefused.{is-a-variable, above-terms, not-declared}
+use Rattle.model.specs.Questions.TripleRefused.{no-subject, subject-refused, no-predicate, predicate-refused, no-object, object-refused}
+use Rattle.model.specs.Questions.PatternRefused.{length-not-whole, length-refused, triple-refused, pattern-not-ended}
+use Rattle.model.specs.Questions.BuildRefused.{threshold-too-large, site-refused, store-too-small}
+use Rattle.model.specs.Questions.CheckRefused.{no-store, pattern-refused}
+use Rattle.model.specs.Questions.RunRefused.{check-refused, plan-refused, rows-too-many}
+use Rattle.model.specs.declared.answer.Answer.the-variants.{Refused}
+use Rattle.model.proofs.Refusals.{site-refuses, pattern-refuses, plan-refuses}
+use Rattle.model.proofs.SiteFile.{site-read, site-back}
+use Rattle.model.proofs.PatternFile.{pattern-read, pattern-back}
+use Rattle.model.proofs.RefusedFiles.{site-exactly, pattern-exactly, plan-exactly}
+use Rattle.model.proofs.RefusedCalls.{build-exactly, check-exactly, plan-call-exactly, run-exactly}
+
+-- ---- the numbers of an element
+
+declaration-number : {done : List Declaration} {bytes : List ℕ} {n : ℕ} → DeclarationRefused done bytes n → n < 8
+declaration-number (predicate-not-whole _) = omega arith
+declaration-number (predicate-not-above _ _) = omega arith
+declaration-number (count-not-whole _ _ _) = omega arith
+declaration-number (total-too-large _ _ _ _) = omega arith
+
+row-number : {done : List Row} {bytes : List ℕ} {n : ℕ} → RowRefused done bytes n → n < 8
+row-number (subject-not-whole _) = omega arith
+row-number (subject-no-term _ _) = omega arith
+row-number (object-not-whole _ _ _) = omega arith
+row-number (object-no-term _ _ _ _) = omega arith
+row-number (row-not-above _ _ _ _ _) = omega arith
+
+position-number : {k x n : ℕ} → PositionRefused k x n → Between 13 16 n
+position-number (no-term _ _ _) = omega arith
+position-number (out-of-range _ _ _) = omega arith
+position-number (out-of-order _ _ _) = omega arith
+
+predicate-number : {site : Site} {x n : ℕ} → PredicateRefused site x n → Between 13 16 n
+predicate-number (is-a-variable _ _) = omega arith
+predicate-number (above-terms _ _ _) = omega arith
+predicate-number (not-declared _ _ _ _) = omega arith
+
+triple-number : {site : Site} {done : Pattern} {bytes : List ℕ} {n : ℕ} → TripleRefused site done bytes n → (n ≡ 11) ⊎ Between 13 16 n
+triple-number (no-subject _) = inl refl
+triple-number (subject-refused _ r) = inr (position-number r)
+triple-number (no-predicate _ _ _) = inl refl
+triple-number (predicate-refused _ _ _ r) = inr (predicate-number r)
+triple-number (no-object _ _ _ _ _) = inl refl
+triple-number (object-refused _ _ _ _ _ r) = inr (position-number r)
+
+-- ---- build: 1, 8, 9
+
+module _ (t : ℕ) (bytes memory : List ℕ) where
+  pub one-exactly : (build t bytes memory .answer ≡ Refused 1) ↔ (1000 < t)
+  one-exactly = ((λ h. to (build-exactly t bytes memory 1 .0 h) refl), λ l. build-exactly t bytes memory 1 .1 (threshold-too-large l))
+    where
+      to : {n : ℕ} → BuildRefused t bytes memory n → n ≡ 1 → 1000 < t
+      to (threshold-too-large l) e = l
+      to (site-refused {n} l r) e = let b = site-refuses bytes .number-between n (site-exactly bytes n .1 r) in absurd (omega arith)
+      to (store-too-small l r s) e = absurd (omega arith)
+
+  pub eight-exactly : areBytes bytes ≡ true
+      → (build t bytes memory .answer ≡ Refused 8) ↔ ((t ≤ 1000) × ((site : Site) × (b : ℕ) × (rest : List ℕ) × (isSite site ≡ true) × (bytes ≡ siteBytes site ++ b ∷ rest)))
+  eight-exactly are = (
+    (λ h. to (build-exactly t bytes memory 8 .0 h) refl),
+    λ (x : (t ≤ 1000) × ((site : Site) × (b : ℕ) × (rest : List ℕ) × (isSite site ≡ true) × (bytes ≡ siteBytes site ++ b ∷ rest))).
+        let y = x .1 in
+        let read : siteFile bytes ≡ gives (y .0, y .1 ∷ y .2) = rw (y .4) (site-back (y .0) (y .1 ∷ y .2) (y .3)) in
+        build-exactly t bytes memory 8 .1 (site-refused (x .0) (site-not-ended read)),
+  )
+    where
+      ended : {n : ℕ} → SiteRefused bytes n → n ≡ 8 → (site : Site) × (b : ℕ) × (rest : List ℕ) × (isSite site ≡ true) × (bytes ≡ siteBytes site ++ b ∷ rest)
+      ended (predicates-not-whole _) e = absurd (omega arith)
+      ended (predicates-too-many _ _) e = absurd (omega arith)
+      ended (declaration-refused _ _ r) e = let l = declaration-number (r .refusal) in absurd (omega arith)
+      ended (row-refused _ _ _ r) e = let l = row-number (r .refusal .refusal) in absurd (omega arith)
+      ended (site-not-ended {site} {b} {rest} h) e = let r = site-read bytes h in (site, b, rest, r .0, r .1 .cut are)
+
+      to : {n : ℕ} → BuildRefused t bytes memory n → n ≡ 8 → (t ≤ 1000) × ((site : Site) × (b : ℕ) × (rest : List ℕ) × (isSite site ≡ true) × (bytes ≡ siteBytes site ++ b ∷ rest))
+      to (threshold-too-large l) e = absurd (omega arith)
+      to (site-refused l r) e = (l, ended r e)
+      to (store-too-small l r s) e = absurd (omega arith)
+
+  pub nine-exactly : (build t bytes memory .answer ≡ Refused 9) ↔ ((t ≤ 1000) × ((site : Site) × (readSite bytes ≡ gives site) × (length memory < length (layout t site))))
+  nine-exactly = (
+    (λ h. to (build-exactly t bytes memory 9 .0 h) refl),
+    λ (x : (t ≤ 1000) × ((site : Site) × (readSite bytes ≡ gives site) × (length memory < length (layout t site)))).
+        build-exactly t bytes memory 9 .1 (store-too-small (x .0) (x .1 .1) (x .1 .2)),
+  )
+    where
+      to : {n : ℕ} → BuildRefused t bytes memory n → n ≡ 9 → (t ≤ 1000) × ((site : Site) × (readSite bytes ≡ gives site) × (length memory < length (layout t site)))
+      to (threshold-too-large l) e = absurd (omega arith)
+      to (site-refused {n} l r) e = let b = site-refuses bytes .number-between n (site-exactly bytes n .1 r) in absurd (omega arith)
+      to (store-too-small {site} l r s) e = (l, (site, r, s))
