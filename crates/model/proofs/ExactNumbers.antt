@@ -3,10 +3,10 @@ use Prim.Native.Nat.{ℕ, _*_, _≤_, _<_}
 use native.Mathlib.Omega.{arith}
 use mathlib.Core.Path.{_≡_, refl, sym, ap, _∙_}
 use mathlib.Core.Logic.{_⊎_, inl, inr, ⊎-elim, _↔_}
-use mathlib.Core.Bool.{true}
+use mathlib.Core.Bool.{Bool, true}
 use mathlib.Core.List.{List, _∷_, _++_}
 use lib.ListN.{length}
-use Rattle.model.specs.Reader.{refused, gives}
+use Rattle.model.specs.Reader.{refused, gives, Reader}
 use Rattle.model.specs.Numbers.{areBytes}
 use Rattle.model.specs.Site.{Row, Site, isSite}
 use Rattle.model.specs.SiteFile.{Declaration, siteFile, readSite, siteBytes}
@@ -18,7 +18,7 @@ use Rattle.model.specs.PlanFile.{readPlan}
 use Rattle.model.specs.Solutions.{solutions}
 use Rattle.model.specs.Answers.{Between}
 use Rattle.model.specs.Calls.{build, plan, run}
-use Rattle.model.specs.Questions.{Begins, DeclarationRefused, RowRefused, SiteRefused, PositionRefused, PredicateRefused, TripleRefused, PatternRefused, BuildRefused, CheckRefused, RunRefused}
+use Rattle.model.specs.Questions.{Begins, GoesOn, NoRoom, RowsExceed, DeclarationRefused, RowRefused, SiteRefused, PositionRefused, PredicateRefused, TripleRefused, PatternRefused, BuildRefused, CheckRefused, RunRefused}
 use Rattle.model.specs.Questions.DeclarationRefused.{predicate-not-whole, predicate-not-above, count-not-whole, total-too-large}
 use Rattle.model.specs.Questions.RowRefused.{subject-not-whole, subject-no-term, object-not-whole, object-no-term, row-not-above}
 use Rattle.model.specs.Questions.SiteRefused.{predicates-not-whole, predicates-too-many, declaration-refused, row-refused, site-not-ended}
@@ -71,6 +71,12 @@ triple-number (object-refused _ _ _ _ _ r) = inr (position-number r)
 
 -- ---- build: 1, 8, 9
 
+-- what is written is read, and bytes are left
+goes-on-read : {A : Type 0} (write : A → List ℕ) (good : A → Bool) (bytes : List ℕ) (reader : Reader A)
+    → ((x : A) (rest : List ℕ) → good x ≡ true → reader (write x ++ rest) ≡ gives (x, rest))
+    → (g : GoesOn write good bytes) → reader bytes ≡ gives (g .0, g .1 ∷ g .2)
+goes-on-read write good bytes reader back (x, b, rest, e, same) = rw same (back x (b ∷ rest) e)
+
 module _ (t : ℕ) (bytes memory : List ℕ) where
   pub one-exactly : (build t bytes memory .answer ≡ Refused 1) ↔ (1000 < t)
   one-exactly = ((λ h. to (build-exactly t bytes memory 1 .0 h) refl), λ l. build-exactly t bytes memory 1 .1 (threshold-too-large l))
@@ -78,38 +84,95 @@ module _ (t : ℕ) (bytes memory : List ℕ) where
       to : {n : ℕ} → BuildRefused t bytes memory n → n ≡ 1 → 1000 < t
       to (threshold-too-large l) e = l
       to (site-refused {n} l r) e = let b = site-refuses bytes .number-between n (site-exactly bytes n .1 r) in absurd (omega arith)
-      to (store-too-small l r s) e = absurd (omega arith)
+      to (store-too-small l r) e = absurd (omega arith)
 
-  pub eight-exactly : areBytes bytes ≡ true
-      → (build t bytes memory .answer ≡ Refused 8) ↔ ((t ≤ 1000) × ((site : Site) × (b : ℕ) × (rest : List ℕ) × (isSite site ≡ true) × (bytes ≡ siteBytes site ++ b ∷ rest)))
-  eight-exactly are = (
-    (λ h. to (build-exactly t bytes memory 8 .0 h) refl),
-    λ (x : (t ≤ 1000) × ((site : Site) × (b : ℕ) × (rest : List ℕ) × (isSite site ≡ true) × (bytes ≡ siteBytes site ++ b ∷ rest))).
-        let y = x .1 in
-        let read : siteFile bytes ≡ gives (y .0, y .1 ∷ y .2) = rw (y .4) (site-back (y .0) (y .1 ∷ y .2) (y .3)) in
-        build-exactly t bytes memory 8 .1 (site-refused (x .0) (site-not-ended read)),
+  pub nine-exactly : (build t bytes memory .answer ≡ Refused 9) ↔ ((t ≤ 1000) × NoRoom t bytes memory)
+  nine-exactly = (
+    (λ h. to (build-exactly t bytes memory 9 .0 h) refl),
+    λ (x : (t ≤ 1000) × NoRoom t bytes memory). build-exactly t bytes memory 9 .1 (store-too-small (x .0) (x .1)),
   )
     where
-      ended : {n : ℕ} → SiteRefused bytes n → n ≡ 8 → (site : Site) × (b : ℕ) × (rest : List ℕ) × (isSite site ≡ true) × (bytes ≡ siteBytes site ++ b ∷ rest)
+      to : {n : ℕ} → BuildRefused t bytes memory n → n ≡ 9 → (t ≤ 1000) × NoRoom t bytes memory
+      to (threshold-too-large l) e = absurd (omega arith)
+      to (site-refused {n} l r) e = let b = site-refuses bytes .number-between n (site-exactly bytes n .1 r) in absurd (omega arith)
+      to (store-too-small l r) e = (l, r)
+
+  pub eight-exactly : areBytes bytes ≡ true → (build t bytes memory .answer ≡ Refused 8) ↔ ((t ≤ 1000) × GoesOn siteBytes isSite bytes)
+  eight-exactly are = (
+    (λ h. to (build-exactly t bytes memory 8 .0 h) refl),
+    λ (x : (t ≤ 1000) × GoesOn siteBytes isSite bytes).
+        build-exactly t bytes memory 8 .1 (site-refused (x .0) (site-not-ended (goes-on-read siteBytes isSite bytes siteFile site-back (x .1)))),
+  )
+    where
+      ended : {n : ℕ} → SiteRefused bytes n → n ≡ 8 → GoesOn siteBytes isSite bytes
       ended (predicates-not-whole _) e = absurd (omega arith)
       ended (predicates-too-many _ _) e = absurd (omega arith)
       ended (declaration-refused _ _ r) e = let l = declaration-number (r .refusal) in absurd (omega arith)
       ended (row-refused _ _ _ r) e = let l = row-number (r .refusal .refusal) in absurd (omega arith)
       ended (site-not-ended {site} {b} {rest} h) e = let r = site-read bytes h in (site, b, rest, r .0, r .1 .cut are)
 
-      to : {n : ℕ} → BuildRefused t bytes memory n → n ≡ 8 → (t ≤ 1000) × ((site : Site) × (b : ℕ) × (rest : List ℕ) × (isSite site ≡ true) × (bytes ≡ siteBytes site ++ b ∷ rest))
+      to : {n : ℕ} → BuildRefused t bytes memory n → n ≡ 8 → (t ≤ 1000) × GoesOn siteBytes isSite bytes
       to (threshold-too-large l) e = absurd (omega arith)
       to (site-refused l r) e = (l, ended r e)
-      to (store-too-small l r s) e = absurd (omega arith)
+      to (store-too-small l r) e = absurd (omega arith)
 
-  pub nine-exactly : (build t bytes memory .answer ≡ Refused 9) ↔ ((t ≤ 1000) × ((site : Site) × (readSite bytes ≡ gives site) × (length memory < length (layout t site))))
-  nine-exactly = (
-    (λ h. to (build-exactly t bytes memory 9 .0 h) refl),
-    λ (x : (t ≤ 1000) × ((site : Site) × (readSite bytes ≡ gives site) × (length memory < length (layout t site)))).
-        build-exactly t bytes memory 9 .1 (store-too-small (x .0) (x .1 .1) (x .1 .2)),
+-- ---- the pattern: 12, 17
+
+module _ (site : Site) (bytes : List ℕ) where
+  pub twelve-exactly : (readPattern site bytes ≡ refused 12) ↔ ((k : ℕ) × (rest : List ℕ) × Begins bytes k rest × ((k ≡ 0) ⊎ (8 < k)))
+  twelve-exactly = (
+    (λ h. to (pattern-exactly site bytes 12 .0 h) refl),
+    λ (x : (k : ℕ) × (rest : List ℕ) × Begins bytes k rest × ((k ≡ 0) ⊎ (8 < k))). pattern-exactly site bytes 12 .1 (length-refused (x .2) (x .3)),
   )
     where
-      to : {n : ℕ} → BuildRefused t bytes memory n → n ≡ 9 → (t ≤ 1000) × ((site : Site) × (readSite bytes ≡ gives site) × (length memory < length (layout t site)))
-      to (threshold-too-large l) e = absurd (omega arith)
-      to (site-refused {n} l r) e = let b = site-refuses bytes .number-between n (site-exactly bytes n .1 r) in absurd (omega arith)
-      to (store-too-small {site} l r s) e = (l, (site, r, s))
+      to : {n : ℕ} → PatternRefused site bytes n → n ≡ 12 → (k : ℕ) × (rest : List ℕ) × Begins bytes k rest × ((k ≡ 0) ⊎ (8 < k))
+      to (length-not-whole _) e = absurd (omega arith)
+      to (length-refused {k} {rest} a l) e = (k, rest, a, l)
+      to (triple-refused _ _ _ r) e = ⊎-elim (λ m. absurd (omega arith)) (λ m. absurd (omega arith)) (triple-number (r .refusal))
+      to (pattern-not-ended _) e = absurd (omega arith)
+
+  pub seventeen-exactly : areBytes bytes ≡ true → (readPattern site bytes ≡ refused 17) ↔ GoesOn patternBytes (isAccepted site) bytes
+  seventeen-exactly are = (
+    (λ h. to (pattern-exactly site bytes 17 .0 h) refl),
+    λ x. pattern-exactly site bytes 17 .1 (pattern-not-ended (goes-on-read patternBytes (isAccepted site) bytes (patternFile site) (pattern-back site) x)),
+  )
+    where
+      to : {n : ℕ} → PatternRefused site bytes n → n ≡ 17 → GoesOn patternBytes (isAccepted site) bytes
+      to (length-not-whole _) e = absurd (omega arith)
+      to (length-refused _ _) e = absurd (omega arith)
+      to (triple-refused _ _ _ r) e = ⊎-elim (λ m. absurd (omega arith)) (λ m. absurd (omega arith)) (triple-number (r .refusal))
+      to (pattern-not-ended {pattern} {b} {rest} h) e = let r = pattern-read site bytes h in (pattern, b, rest, r .0, r .1 .cut are)
+
+-- ---- plan and run: 10, 21
+
+module _ (words bytes : List ℕ) where
+  check-ten : {n : ℕ} → CheckRefused words bytes n → n ≡ 10 → IsStore words → ⊥
+  check-ten (no-store f) e = f
+  check-ten (pattern-refused {t} {n} {site} holds r) e =
+      let b = pattern-refuses site bytes .number-between n (pattern-exactly site bytes n .1 r) in absurd (omega arith)
+
+  check-below : {n : ℕ} → CheckRefused words bytes n → n ≤ 17
+  check-below (no-store f) = omega arith
+  check-below (pattern-refused {t} {n} {site} holds r) = pattern-refuses site bytes .number-between n (pattern-exactly site bytes n .1 r) .1
+
+  pub plan-ten : (plan words bytes .answer ≡ Refused 10) ↔ (IsStore words → ⊥)
+  plan-ten = ((λ h. check-ten (plan-call-exactly words bytes 10 .0 h) refl), λ f. plan-call-exactly words bytes 10 .1 (no-store f))
+
+  module _ (steps memory : List ℕ) where
+    pub run-ten : (run words bytes steps memory .answer ≡ Refused 10) ↔ (IsStore words → ⊥)
+    run-ten = ((λ h. to (run-exactly words bytes steps memory 10 .0 h) refl), λ f. run-exactly words bytes steps memory 10 .1 (check-refused (no-store f)))
+      where
+        to : {n : ℕ} → RunRefused words bytes steps memory n → n ≡ 10 → IsStore words → ⊥
+        to (check-refused r) e = check-ten r e
+        to (plan-refused {t} {n} {site} {pattern} holds read r) e =
+            let b = plan-refuses (storeAt t site) pattern steps .number-between n (plan-exactly (storeAt t site) pattern steps n .1 r) in absurd (omega arith)
+        to (rows-too-many r) e = absurd (omega arith)
+
+    pub twenty-one-exactly : (run words bytes steps memory .answer ≡ Refused 21) ↔ RowsExceed words bytes steps memory
+    twenty-one-exactly = ((λ h. to (run-exactly words bytes steps memory 21 .0 h) refl), λ r. run-exactly words bytes steps memory 21 .1 (rows-too-many r))
+      where
+        to : {n : ℕ} → RunRefused words bytes steps memory n → n ≡ 21 → RowsExceed words bytes steps memory
+        to (check-refused r) e = let l = check-below r in absurd (omega arith)
+        to (plan-refused {t} {n} {site} {pattern} holds read r) e =
+            let b = plan-refuses (storeAt t site) pattern steps .number-between n (plan-exactly (storeAt t site) pattern steps n .1 r) in absurd (omega arith)
+        to (rows-too-many r) e = r

@@ -74,13 +74,13 @@ module _ (t : ℕ) (bytes memory : List ℕ) where
           by-own P memory 1 (leb t mostThreshold) _ h (λ f. threshold-too-large (leb-false t mostThreshold f))
           λ f h. let low = leb-true t mostThreshold f in by-no P memory (readSite bytes) _ h (λ m e. site-refused low (site-exactly bytes m .0 e))
           λ site e h. let words = length (layout t site) in
-          by-own P memory 9 (leb words (length memory)) _ h (λ f. store-too-small low e (leb-false words (length memory) f))
+          by-own P memory 9 (leb words (length memory)) _ h (λ f. store-too-small low (site, e, leb-false words (length memory) f))
           λ _ h. let z : _≡_ {A = ℕ} 0 1 = cc in absurd (omega arith)
 
       from : {n : ℕ} → P n → build t bytes memory .answer ≡ Refused n
       from (threshold-too-large l) = rw (lt-leb t mostThreshold l) refl
       from (site-refused {n} l r) = rw (le-leb t mostThreshold l, site-exactly bytes n .1 r) refl
-      from (store-too-small {site} l e s) = rw (le-leb t mostThreshold l, e, lt-leb (length (layout t site)) (length memory) s) refl
+      from (store-too-small l (site, e, s)) = rw (le-leb t mostThreshold l, e, lt-leb (length (layout t site)) (length memory) s) refl
 
 -- ---- a check over a store
 
@@ -190,11 +190,22 @@ module _ (words bytes steps memory : List ℕ) where
           λ c e h. let a = check-gives words bytes c e in
           by-no P memory (readPlan (c .store) (c .pattern) steps) _ h (λ m e. plan-refused (a .0) (a .1) (plan-exactly (c .store) (c .pattern) steps m .0 e))
           λ plan e h. by-counts memory _ (noneByCounts (c .store .site) (c .pattern)) h
-          (λ h. let r = rows-exactly (width (c .pattern)) (solutions (c .store .site) (c .pattern)) memory n .0 h in rw (r .0) (rows-too-many (a .0) (a .1) e (r .1)))
+          (λ h. let r = rows-exactly (width (c .pattern)) (solutions (c .store .site) (c .pattern)) memory n .0 h in
+          rw (r .0) (rows-too-many (record {
+            t = c .store .threshold;
+            site = c .store .site;
+            holds = a .0;
+            pattern = c .pattern;
+            accepted = a .1;
+            plan = plan;
+            proper = e;
+            exceed = r .1;
+          })))
 
       from : {n : ℕ} → P n → run words bytes steps memory .answer ≡ Refused n
       from (check-refused {n} r) = rw (check-exactly words bytes n .1 r) refl
       from (plan-refused {t} {n} {site} {pattern} holds read r) = rw (check-given words bytes holds read, plan-exactly (storeAt t site) pattern steps n .1 r) refl
-      from (rows-too-many {t} {site} {pattern} {plan} holds read proper l) =
-          rw (check-given words bytes holds read, proper, counts-say-more site pattern (pattern-accepted site bytes pattern read) memory l)
-          (rows-exactly (width pattern) (solutions site pattern) memory 21 .1 (refl, l))
+      from (rows-too-many r) =
+          let accepted = pattern-accepted (r .site) bytes (r .pattern) (r .accepted) in
+          rw (check-given words bytes (r .holds) (r .accepted), r .proper, counts-say-more (r .site) (r .pattern) accepted memory (r .exceed))
+          (rows-exactly (width (r .pattern)) (solutions (r .site) (r .pattern)) memory 21 .1 (refl, r .exceed))

@@ -3,7 +3,7 @@
 use Prim.Native.Nat.{ℕ, _+_, _*_, _≤_, _<_}
 use mathlib.Core.Path.{_≡_}
 use mathlib.Core.Logic.{_⊎_}
-use mathlib.Core.Bool.{false}
+use mathlib.Core.Bool.{Bool, true, false}
 use mathlib.Core.Option.{none, some}
 use mathlib.Core.List.{List, [], _∷_, _++_}
 use lib.ListN.{length, drop}
@@ -43,6 +43,10 @@ module _ {A : Type 0} where
     pub fewer : length before < k
     pub read : repeated one (length before) [] bytes ≡ gives (before, rest)
     pub refusal : IsRefused before rest n
+
+  -- what is written for one that is proper, and at least one byte more
+  abbrev pub GoesOn : (A → List ℕ) → (A → Bool) → List ℕ → Type 0
+  GoesOn write isProper bytes = (x : A) × (b : ℕ) × (rest : List ℕ) × (isProper x ≡ true) × (bytes ≡ write x ++ b ∷ rest)
 
 -- ---- a declaration
 
@@ -153,19 +157,34 @@ pub data PlanRefused (store : Store) (pattern : Pattern) (bytes : List ℕ) : �
 
 -- ---- the calls
 
+-- the site that was read needs more words than are lent
+abbrev pub NoRoom : ℕ → List ℕ → List ℕ → Type 0
+NoRoom t bytes memory = (site : Site) × (readSite bytes ≡ gives site) × (length memory < length (layout t site))
+
 -- T, site, store to fill
 pub data BuildRefused (t : ℕ) (bytes memory : List ℕ) : ℕ → Type 0 where
   threshold-too-large : 1000 < t → BuildRefused t bytes memory 1
   site-refused : {n : ℕ} → t ≤ 1000 → SiteRefused bytes n → BuildRefused t bytes memory n
-  store-too-small : {site : Site} → t ≤ 1000 → readSite bytes ≡ gives site → length memory < length (layout t site) → BuildRefused t bytes memory 9
+  store-too-small : t ≤ 1000 → NoRoom t bytes memory → BuildRefused t bytes memory 9
 
 -- store, pattern
 pub data CheckRefused (words bytes : List ℕ) : ℕ → Type 0 where
   no-store : (IsStore words → ⊥) → CheckRefused words bytes 10
   pattern-refused : {t n : ℕ} {site : Site} → Holds words t site → PatternRefused site bytes n → CheckRefused words bytes n
 
+-- a store, a pattern that is accepted there, a proper plan, and more words of rows than are lent
+pub record RowsExceed (words bytes steps memory : List ℕ) : Type 0 where
+  pub t : ℕ
+  pub site : Site
+  pub holds : Holds words t site
+  pub pattern : Pattern
+  pub accepted : readPattern site bytes ≡ gives pattern
+  pub plan : Plan
+  pub proper : readPlan (storeAt t site) pattern steps ≡ gives plan
+  pub exceed : length memory < length (solutions site pattern) * width pattern
+
 -- then plan, rows memory
 pub data RunRefused (words bytes steps memory : List ℕ) : ℕ → Type 0 where
   check-refused : {n : ℕ} → CheckRefused words bytes n → RunRefused words bytes steps memory n
   plan-refused : {t n : ℕ} {site : Site} {pattern : Pattern} → Holds words t site → readPattern site bytes ≡ gives pattern → PlanRefused (storeAt t site) pattern steps n → RunRefused words bytes steps memory n
-  rows-too-many : {t : ℕ} {site : Site} {pattern : Pattern} {plan : Plan} → Holds words t site → readPattern site bytes ≡ gives pattern → readPlan (storeAt t site) pattern steps ≡ gives plan → length memory < length (solutions site pattern) * width pattern → RunRefused words bytes steps memory 21
+  rows-too-many : RowsExceed words bytes steps memory → RunRefused words bytes steps memory 21
