@@ -1,6 +1,7 @@
 -- What is promised of the definitions: the three demands and what they lean on, each a named statement with its proof under it.
 
 pub mod Answers
+pub mod Questions
 pub mod Solutions
 pub mod Store
 pub mod Files

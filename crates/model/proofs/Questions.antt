@@ -134,7 +134,7 @@ module _ {A : Type 0} (one : List A → Reader A) where
   unfolding after
   first-refused IsRefused exactly k bytes n = (
     (λ h. let r = next-refusal k [] bytes h in
-      record { before = r .more; rest = r .rest; fewer = r .fewer; read = r .read; refusal = exactly (r .more) (r .rest) n .0 (r .refusal) }),
+        record { before = r .more; rest = r .rest; fewer = r .fewer; read = r .read; refusal = exactly (r .more) (r .rest) n .0 (r .refusal) }),
     λ r. next-refused (part r) (r .fewer) (exactly (r .before) (r .rest) n .1 (r .refusal)),
   )
     where

@@ -147,7 +147,7 @@ module _ (words bytes : List ℕ) where
   unfolding plan either
   plan-call-exactly n = (
     (λ h. by-reply (λ (p : Planned). p .answer ≡ Refused n → CheckRefused words bytes n) _ (checked words bytes) _
-      (λ m e h. this-number (CheckRefused words bytes) h (check-exactly m .0 e)) (λ check e h. let z : _≡_ {A = ℕ} 0 1 = cc in absurd (omega arith)) h),
+        (λ m e h. this-number (CheckRefused words bytes) h (check-exactly m .0 e)) (λ check e h. let z : _≡_ {A = ℕ} 0 1 = cc in absurd (omega arith)) h),
     λ r. rw (check-exactly n .1 r) refl,
   )
 
@@ -160,7 +160,7 @@ unfolding rowsOutcome either
 rows-exactly v [] memory n = ((λ h. other-answer refl h), λ r. absurd (omega arith))
 rows-exactly v (r ∷ rs) memory n = (
   (λ h. by-own (λ n. (n ≡ 21) × (length memory < length (r ∷ rs) * v)) memory 21 (leb (length (r ∷ rs) * v) (length memory)) _ h
-    (λ f. (refl, leb-false (length (r ∷ rs) * v) (length memory) f)) (λ _ h. let z : _≡_ {A = ℕ} 0 1 = cc in absurd (omega arith))),
+      (λ f. (refl, leb-false (length (r ∷ rs) * v) (length memory) f)) (λ _ h. let z : _≡_ {A = ℕ} 0 1 = cc in absurd (omega arith))),
   λ (x : (n ≡ 21) × (length memory < length (r ∷ rs) * v)). rw (lt-leb (length (r ∷ rs) * v) (length memory) (x .1), x .0) refl,
 )
 

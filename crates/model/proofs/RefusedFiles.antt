@@ -62,7 +62,7 @@ tables-exactly : (declared : List Declaration) (bytes : List ℕ) (n : ℕ) → 
 unfolding tables after
 tables-exactly declared bytes n = (
   (λ h. let r = next-table declared [] bytes h in
-    record { before = r .0; this = r .1; later = r .2; split = r .3; done = r .4; rest = r .5; read = r .6; refusal = r .7 }),
+      record { before = r .0; this = r .1; later = r .2; split = r .3; done = r .4; rest = r .5; read = r .6; refusal = r .7 }),
   λ (r : TableRefused declared bytes n).
       rw (r .split, tables-split (r .before) (r .this ∷ r .later) [] bytes, r .read, rows-exactly (r .this .1) (r .rest) n .1 (r .refusal)) refl,
 )

@@ -143,12 +143,23 @@ module _ (site : Site) where
         from (predicate-refused {s} {p} {n} {rest} {more} a f b g) =
             rw (begins 11 a, passes (position-asks k (positionOf s)) rest (position-passes k s .1 f), begins 11 b, predicate-exactly p more n .1 g) refl
         from (no-object {s} {p} {rest} {more} a f b g broken) =
-            rw (begins 11 a, passes (position-asks k (positionOf s)) rest (position-passes k s .1 f), begins 11 b,
-              passes (predicate-asks site (positionOf p)) more (predicate-passes p .1 g), no-number 11 more broken) refl
+            rw (
+              begins 11 a,
+              passes (position-asks k (positionOf s)) rest (position-passes k s .1 f),
+              begins 11 b,
+              passes (predicate-asks site (positionOf p)) more (predicate-passes p .1 g),
+              no-number 11 more broken,
+            ) refl
         from (object-refused {s} {p} {o} {n} {rest} {more} {end} a f b g c i) =
-            rw (begins 11 a, passes (position-asks k (positionOf s)) rest (position-passes k s .1 f), begins 11 b,
-              passes (predicate-asks site (positionOf p)) more (predicate-passes p .1 g), begins 11 c, object-variables k s p g,
-              position-exactly (variablesWith k (positionOf s)) o end n .1 i) refl
+            rw (
+              begins 11 a,
+              passes (position-asks k (positionOf s)) rest (position-passes k s .1 f),
+              begins 11 b,
+              passes (predicate-asks site (positionOf p)) more (predicate-passes p .1 g),
+              begins 11 c,
+              object-variables k s p g,
+              position-exactly (variablesWith k (positionOf s)) o end n .1 i,
+            ) refl
 
 -- ---- a step
 
