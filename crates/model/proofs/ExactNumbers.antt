@@ -1,24 +1,21 @@
 -- Exactly when 1, 8, 9, 10, 12, 17 and 21 are given: each number stands on one line only.
-use Prim.Native.Nat.{ℕ, _*_, _≤_, _<_}
+use Prim.Native.Nat.{ℕ, _≤_, _<_}
 use native.Mathlib.Omega.{arith}
-use mathlib.Core.Path.{_≡_, refl, sym, ap, _∙_}
+use mathlib.Core.Path.{_≡_, refl, subst}
 use mathlib.Core.Logic.{_⊎_, inl, inr, ⊎-elim, _↔_}
 use mathlib.Core.Bool.{Bool, true}
 use mathlib.Core.List.{List, _∷_, _++_}
-use lib.ListN.{length}
 use Rattle.model.specs.Reader.{refused, gives, Reader}
 use Rattle.model.specs.Numbers.{areBytes}
 use Rattle.model.specs.Site.{Row, Site, isSite}
 use Rattle.model.specs.SiteFile.{Declaration, siteFile, readSite, siteBytes}
-use Rattle.model.specs.Store.{layout, Holds, IsStore, storeAt}
-use Rattle.model.specs.Pattern.{Pattern, width, isAccepted}
+use Rattle.model.specs.Store.{Holds, IsStore, Store, storeAt}
+use Rattle.model.specs.Pattern.{Pattern, isAccepted}
 use Rattle.model.specs.PatternFile.{patternFile, readPattern, patternBytes}
-use Rattle.model.specs.Plan.{Plan}
 use Rattle.model.specs.PlanFile.{readPlan}
-use Rattle.model.specs.Solutions.{solutions}
 use Rattle.model.specs.Answers.{Between}
 use Rattle.model.specs.Calls.{build, plan, run}
-use Rattle.model.specs.Questions.{Begins, GoesOn, NoRoom, RowsExceed, DeclarationRefused, RowRefused, SiteRefused, PositionRefused, PredicateRefused, TripleRefused, PatternRefused, BuildRefused, CheckRefused, RunRefused}
+use Rattle.model.specs.Questions.{Begins, GoesOn, NoRoom, RowsExceed, DeclarationRefused, RowRefused, SiteRefused, PositionRefused, PredicateRefused, TripleRefused, PatternRefused, PlanRefused, BuildRefused, CheckRefused, RunRefused}
 use Rattle.model.specs.Questions.DeclarationRefused.{predicate-not-whole, predicate-not-above, count-not-whole, total-too-large}
 use Rattle.model.specs.Questions.RowRefused.{subject-not-whole, subject-no-term, object-not-whole, object-no-term, row-not-above}
 use Rattle.model.specs.Questions.SiteRefused.{predicates-not-whole, predicates-too-many, declaration-refused, row-refused, site-not-ended}
@@ -30,11 +27,12 @@ use Rattle.model.specs.Questions.BuildRefused.{threshold-too-large, site
 use Rattle.model.specs.Questions.CheckRefused.{no-store, pattern-refused}
 use Rattle.model.specs.Questions.RunRefused.{check-refused, plan-refused, rows-too-many}
 use Rattle.model.specs.declared.answer.Answer.the-variants.{Refused}
+use Rattle.model.proofs.Stores.{store-complete}
 use Rattle.model.proofs.Refusals.{site-refuses, pattern-refuses, plan-refuses}
 use Rattle.model.proofs.SiteFile.{site-read, site-back}
 use Rattle.model.proofs.PatternFile.{pattern-read, pattern-back}
 use Rattle.model.proofs.RefusedFiles.{site-exactly, pattern-exactly, plan-exactly}
-use Rattle.model.proofs.RefusedCalls.{build-exactly, check-exactly, plan-call-exactly, run-exactly}
+use Rattle.model.proofs.RefusedCalls.{build-exactly, plan-call-exactly, run-exactly}
 
 -- ---- the numbers of an element
 
@@ -145,6 +143,9 @@ module _ (site : Site) (bytes : List ℕ) where
 
 -- ---- plan and run: 10, 21
 
+plan-number : (t : ℕ) (site : Site) (pattern : Pattern) (bytes : List ℕ) (n : ℕ) → PlanRefused (storeAt t site) pattern bytes n → Between 18 20 n
+plan-number t site pattern bytes n r = plan-refuses (storeAt t site) pattern bytes .number-between n (plan-exactly (storeAt t site) pattern bytes n .1 r)
+
 module _ (words bytes : List ℕ) where
   check-ten : {n : ℕ} → CheckRefused words bytes n → n ≡ 10 → IsStore words → ⊥
   check-ten (no-store f) e = f
@@ -165,7 +166,7 @@ module _ (words bytes : List ℕ) where
         to : {n : ℕ} → RunRefused words bytes steps memory n → n ≡ 10 → IsStore words → ⊥
         to (check-refused r) e = check-ten r e
         to (plan-refused {t} {n} {site} {pattern} holds read r) e =
-            let b = plan-refuses (storeAt t site) pattern steps .number-between n (plan-exactly (storeAt t site) pattern steps n .1 r) in absurd (omega arith)
+            let b = plan-number t site pattern steps n r in absurd (omega arith)
         to (rows-too-many r) e = absurd (omega arith)
 
     pub twenty-one-exactly : (run words bytes steps memory .answer ≡ Refused 21) ↔ RowsExceed words bytes steps memory
@@ -174,5 +175,67 @@ module _ (words bytes : List ℕ) where
         to : {n : ℕ} → RunRefused words bytes steps memory n → n ≡ 21 → RowsExceed words bytes steps memory
         to (check-refused r) e = let l = check-below r in absurd (omega arith)
         to (plan-refused {t} {n} {site} {pattern} holds read r) e =
-            let b = plan-refuses (storeAt t site) pattern steps .number-between n (plan-exactly (storeAt t site) pattern steps n .1 r) in absurd (omega arith)
+            let b = plan-number t site pattern steps n r in absurd (omega arith)
         to (rows-too-many r) e = r
+
+-- ---- the numbers of a file are those of its reader
+
+pub site-numbers : (t : ℕ) (bytes memory : List ℕ) (n : ℕ) → t ≤ 1000 → Between 2 8 n → (build t bytes memory .answer ≡ Refused n) ↔ (readSite bytes ≡ refused n)
+site-numbers t bytes memory n low between = (
+  (λ h. to (build-exactly t bytes memory n .0 h) between),
+  λ h. build-exactly t bytes memory n .1 (site-refused low (site-exactly bytes n .0 h)),
+)
+  where
+    to : {n : ℕ} → BuildRefused t bytes memory n → Between 2 8 n → readSite bytes ≡ refused n
+    to (threshold-too-large l) b = absurd (omega arith)
+    to (site-refused {n} l r) b = site-exactly bytes n .1 r
+    to (store-too-small l r) b = absurd (omega arith)
+
+module _ {words : List ℕ} {t : ℕ} {site : Site} (holds : Holds words t site) where
+  -- words are the store of one site at most
+  same-store : {u : ℕ} {other : Site} → Holds words u other → storeAt u other ≡ storeAt t site
+  same-store {u} {other} h = let e = store-complete words t site holds in let f = store-complete words u other h in cc
+
+  module _ (bytes : List ℕ) where
+    check-numbers : {n : ℕ} → 11 ≤ n → CheckRefused words bytes n → readPattern site bytes ≡ refused n
+    check-numbers l (no-store f) = absurd (omega arith)
+    check-numbers l (pattern-refused {t = u} {n} {site = other} h r) =
+        subst (λ (s : Store). readPattern (s .site) bytes ≡ refused n) (same-store h) (pattern-exactly other bytes n .1 r)
+
+    from-pattern : (n : ℕ) → readPattern site bytes ≡ refused n → CheckRefused words bytes n
+    from-pattern n h = pattern-refused holds (pattern-exactly site bytes n .0 h)
+
+    pub plan-numbers : (n : ℕ) → Between 11 17 n → (plan words bytes .answer ≡ Refused n) ↔ (readPattern site bytes ≡ refused n)
+    plan-numbers n between = (
+      (λ h. check-numbers (between .0) (plan-call-exactly words bytes n .0 h)),
+      λ h. plan-call-exactly words bytes n .1 (from-pattern n h),
+    )
+
+    module _ (steps memory : List ℕ) where
+      pub run-numbers : (n : ℕ) → Between 11 17 n → (run words bytes steps memory .answer ≡ Refused n) ↔ (readPattern site bytes ≡ refused n)
+      run-numbers n between = (
+        (λ h. to (run-exactly words bytes steps memory n .0 h) between),
+        λ h. run-exactly words bytes steps memory n .1 (check-refused (from-pattern n h)),
+      )
+        where
+          to : {n : ℕ} → RunRefused words bytes steps memory n → Between 11 17 n → readPattern site bytes ≡ refused n
+          to (check-refused r) b = check-numbers (b .0) r
+          to (plan-refused {t = u} {n} {site = other} {pattern} h e r) b = let c = plan-number u other pattern steps n r in absurd (omega arith)
+          to (rows-too-many r) b = absurd (omega arith)
+
+      pub run-plan-numbers : (n : ℕ) → Between 18 20 n
+          → (run words bytes steps memory .answer ≡ Refused n)
+          ↔ ((pattern : Pattern) × (readPattern site bytes ≡ gives pattern) × (readPlan (storeAt t site) pattern steps ≡ refused n))
+      run-plan-numbers n between = (
+        (λ h. to (run-exactly words bytes steps memory n .0 h) between),
+        λ (x : (pattern : Pattern) × (readPattern site bytes ≡ gives pattern) × (readPlan (storeAt t site) pattern steps ≡ refused n)).
+            run-exactly words bytes steps memory n .1 (plan-refused holds (x .1) (plan-exactly (storeAt t site) (x .0) steps n .0 (x .2))),
+      )
+        where
+          to : {n : ℕ} → RunRefused words bytes steps memory n → Between 18 20 n
+              → (pattern : Pattern) × (readPattern site bytes ≡ gives pattern) × (readPlan (storeAt t site) pattern steps ≡ refused n)
+          to (check-refused r) b = let c = check-below words bytes r in absurd (omega arith)
+          to (plan-refused {t = u} {n} {site = other} {pattern} h e r) b =
+              subst (λ (s : Store). (pattern : Pattern) × (readPattern (s .site) bytes ≡ gives pattern) × (readPlan s pattern steps ≡ refused n))
+              (same-store h) (pattern, e, plan-exactly (storeAt u other) pattern steps n .1 r)
+          to (rows-too-many r) b = absurd (omega arith)

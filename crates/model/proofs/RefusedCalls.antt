@@ -1,7 +1,7 @@
 -- A call is refused exactly where a line of specs/Questions holds, with its number: the first question that is answered no.
-use Prim.Native.Nat.{ℕ, _*_, _≤_, _<_}
+use Prim.Native.Nat.{ℕ, _*_, _<_}
 use native.Mathlib.Omega.{arith}
-use mathlib.Core.Path.{_≡_, refl, sym, ap, _∙_, subst}
+use mathlib.Core.Path.{_≡_, refl, sym, ap, _∙_}
 use mathlib.Core.Logic.{_⊎_, inl, inr, ⊎-elim, _↔_}
 use mathlib.Core.Bool.{Bool, true, false, cond}
 use mathlib.Core.Option.{Option, none, some}
@@ -16,16 +16,15 @@ use Rattle.model.specs.Tables.{mostThreshold}
 use Rattle.model.specs.Store.{layout, Holds, IsStore, Store, storeAt, storeOf}
 use Rattle.model.specs.Pattern.{Pattern, width, isAccepted}
 use Rattle.model.specs.PatternFile.{readPattern}
-use Rattle.model.specs.Plan.{Plan}
 use Rattle.model.specs.PlanFile.{readPlan}
 use Rattle.model.specs.Solutions.{solutions}
-use Rattle.model.specs.Calls.{Outcome, outcome, either, question, storeReply, unaltered, filled, build, Check, checkOf, checked, plan, noneByCounts, rowsOutcome, run}
-use Rattle.model.specs.Questions.{SiteRefused, PatternRefused, PlanRefused, BuildRefused, CheckRefused, RunRefused}
+use Rattle.model.specs.Calls.{Outcome, outcome, either, question, unaltered, build, Check, checkOf, checked, plan, noneByCounts, rowsOutcome, run}
+use Rattle.model.specs.Questions.{BuildRefused, CheckRefused, RunRefused}
 use Rattle.model.specs.Questions.BuildRefused.{threshold-too-large, site-refused, store-too-small}
 use Rattle.model.specs.Questions.CheckRefused.{no-store, pattern-refused}
 use Rattle.model.specs.Questions.RunRefused.{check-refused, plan-refused, rows-too-many}
 use Rattle.model.specs.declared.answer.Answer.{Answer}
-use Rattle.model.specs.declared.answer.Answer.the-variants.{Rows, None, Built, Refused}
+use Rattle.model.specs.declared.answer.Answer.the-variants.{None, Refused}
 use Rattle.model.specs.declared.answer.Planned.{Planned}
 use Rattle.model.proofs.Booleans.{to-false}
 use Rattle.model.proofs.PatternFile.{pattern-accepted}

@@ -4,15 +4,15 @@ use native.Mathlib.Omega.{arith}
 use mathlib.Core.Path.{_≡_, refl, sym, ap, _∙_}
 use mathlib.Core.Logic.{_⊎_, inl, inr, _↔_}
 use mathlib.Core.Bool.{Bool, true, false, _&&_, _||_}
-use mathlib.Core.List.{List, [], _∷_, _++_}
+use mathlib.Core.List.{List, [], _∷_}
 use lib.Dec.{eqb, ltb, leb}
-use borrow.Author.Tests.{ltb-true, ltb-false, lt-ltb, le-ltb, leb-true, leb-false, le-leb, lt-leb, eqb-true, eqb-false, eq-eqb, ne-eqb}
+use borrow.Author.Tests.{ltb-true, ltb-false, lt-ltb, le-ltb, leb-true, leb-false, le-leb, lt-leb, eqb-true, eqb-false, ne-eqb}
 use Rattle.model.specs.Lists.{aboveLast}
-use Rattle.model.specs.Reader.{refused, gives, Reader, after, ask}
-use Rattle.model.specs.Numbers.{mostTerm, isTerm, number}
+use Rattle.model.specs.Reader.{refused, gives, after, ask}
+use Rattle.model.specs.Numbers.{mostTerm, isTerm}
 use Rattle.model.specs.Site.{Row, rowBefore, mostRows}
 use Rattle.model.specs.SiteFile.{Declaration, declaredTerms, declaredTotal, declaration, row}
-use Rattle.model.specs.Questions.{NoNumber, Begins, IsLast, PredicateIsAbove, PredicateNotAbove, DeclarationRefused, RowNotAbove, RowRefused}
+use Rattle.model.specs.Questions.{IsLast, PredicateIsAbove, PredicateNotAbove, DeclarationRefused, RowNotAbove, RowRefused}
 use Rattle.model.specs.Questions.DeclarationRefused.{predicate-not-whole, predicate-not-above, count-not-whole, total-too-large}
 use Rattle.model.specs.Questions.RowRefused.{subject-not-whole, subject-no-term, object-not-whole, object-no-term, row-not-above}
 use Rattle.model.proofs.Booleans.{and-cases, and-make, not-both}

@@ -1,16 +1,15 @@
 -- A site, a pattern and a plan: each file is refused exactly where a line of specs/Questions holds, with its number.
 use Prim.Native.Nat.{ℕ, _≤_, _<_}
 use native.Mathlib.Omega.{arith}
-use mathlib.Core.Path.{_≡_, refl, ap, _∙_}
+use mathlib.Core.Path.{_≡_, refl, ap}
 use mathlib.Core.Logic.{_⊎_, inl, inr, _↔_}
-use mathlib.Core.Bool.{true, false, _&&_}
+use mathlib.Core.Bool.{true, false}
 use mathlib.Core.List.{List, [], _∷_, _++_}
 use lib.ListN.{length}
 use lib.Dec.{leb}
 use borrow.Author.Tests.{leb-true, leb-false, le-leb, lt-leb}
 use Rattle.model.specs.Reader.{Reply, refused, gives, Reader, after, ask, repeated}
-use Rattle.model.specs.Numbers.{number}
-use Rattle.model.specs.Site.{Row, Table, Site, mostPredicates}
+use Rattle.model.specs.Site.{Row, Site, mostPredicates}
 use Rattle.model.specs.SiteFile.{Declaration, declaration, row, tables, siteFile, readSite}
 use Rattle.model.specs.Store.{Store}
 use Rattle.model.specs.Pattern.{Pattern, mostTriplePatterns, isPatternLength}

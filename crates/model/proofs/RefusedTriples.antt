@@ -1,7 +1,6 @@
 -- A triple pattern and a step: each is refused exactly where a line of specs/Questions holds, with its number.
-use Prim.Native.Nat.{ℕ, _+_, _*_, _≤_, _<_}
-use native.Mathlib.Omega.{arith}
-use mathlib.Core.Path.{_≡_, refl, sym, ap, _∙_, subst}
+use Prim.Native.Nat.{ℕ}
+use mathlib.Core.Path.{_≡_, refl, sym}
 use mathlib.Core.Logic.{_⊎_, inl, inr, _↔_}
 use mathlib.Core.Bool.{Bool, true, false, _&&_, not}
 use mathlib.Core.List.{List, [], _∷_}
@@ -9,15 +8,15 @@ use lib.ListN.{length}
 use lib.Dec.{eqb, ltb, leb}
 use borrow.Author.Tests.{ltb-true, ltb-false, lt-ltb, le-ltb, leb-true, leb-false, le-leb, lt-leb, eqb-true, eq-eqb, not-true, not-false}
 use Rattle.model.specs.Lists.{_∈_, any}
-use Rattle.model.specs.Reader.{refused, gives, Reader, after, ask}
-use Rattle.model.specs.Numbers.{mostTerm, isTerm, number}
+use Rattle.model.specs.Reader.{refused, gives, after, ask}
+use Rattle.model.specs.Numbers.{mostTerm, isTerm}
 use Rattle.model.specs.Site.{Site, isDeclared}
 use Rattle.model.specs.Store.{Store}
 use Rattle.model.specs.Pattern.{Pattern, mostVariables, variables, variablesWith, width, isNext, isPosition, isPredicate}
 use Rattle.model.specs.PatternFile.{positionOf, askPosition, askPredicate, triplePattern, positionNumber}
 use Rattle.model.specs.Plan.{Plan, placesOf, isPlace, mayChoose}
 use Rattle.model.specs.PlanFile.{step}
-use Rattle.model.specs.Questions.{NoNumber, Begins, PositionPasses, PositionRefused, IsDeclared, PredicatePasses, PredicateRefused, TripleRefused, PlaceIsFree, PlaceNotFree, StepRefused}
+use Rattle.model.specs.Questions.{PositionPasses, PositionRefused, IsDeclared, PredicatePasses, PredicateRefused, TripleRefused, PlaceIsFree, PlaceNotFree, StepRefused}
 use Rattle.model.specs.Questions.PositionPasses.{is-term, is-variable}
 use Rattle.model.specs.Questions.PositionRefused.{no-term, out-of-range, out-of-order}
 use Rattle.model.specs.Questions.PredicateRefused.{is-a-variable, above-terms, not-declared}

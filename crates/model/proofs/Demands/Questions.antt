@@ -4,15 +4,16 @@ use mathlib.Core.Path.{_≡_}
 use mathlib.Core.Logic.{_⊎_, _↔_}
 use mathlib.Core.Bool.{true}
 use mathlib.Core.List.{List, []}
-use Rattle.model.specs.Reader.{refused, Reader, repeated}
+use Rattle.model.specs.Reader.{refused, gives, Reader, repeated}
 use Rattle.model.specs.Numbers.{areBytes}
 use Rattle.model.specs.Site.{Row, Site, isSite}
 use Rattle.model.specs.SiteFile.{Declaration, declaration, row, readSite, siteBytes}
-use Rattle.model.specs.Store.{IsStore, Store}
+use Rattle.model.specs.Store.{Holds, IsStore, Store, storeAt}
 use Rattle.model.specs.Pattern.{Pattern, isAccepted}
 use Rattle.model.specs.PatternFile.{triplePattern, readPattern, patternBytes}
 use Rattle.model.specs.Plan.{Plan}
 use Rattle.model.specs.PlanFile.{step, readPlan}
+use Rattle.model.specs.Answers.{Between}
 use Rattle.model.specs.Calls.{build, plan, run}
 use Rattle.model.specs.Questions.{Begins, GoesOn, FirstRefused, DeclarationRefused, RowRefused, SiteRefused, TripleRefused, PatternRefused, StepRefused, PlanRefused, NoRoom, BuildRefused, CheckRefused, RowsExceed, RunRefused}
 use Rattle.model.specs.declared.answer.Answer.the-variants.{Refused}
@@ -21,7 +22,7 @@ use Rattle.model.proofs.RefusedElements.{declaration-exactly, row-exact
 use Rattle.model.proofs.RefusedTriples.{triple-exactly, step-exactly}
 use Rattle.model.proofs.RefusedFiles.{site-exactly, pattern-exactly, plan-exactly}
 use Rattle.model.proofs.RefusedCalls.{build-exactly, plan-call-exactly, run-exactly}
-use Rattle.model.proofs.ExactNumbers.{one-exactly, eight-exactly, nine-exactly, plan-ten, run-ten, twelve-exactly, seventeen-exactly, twenty-one-exactly}
+use Rattle.model.proofs.ExactNumbers.{one-exactly, eight-exactly, nine-exactly, plan-ten, run-ten, twelve-exactly, seventeen-exactly, twenty-one-exactly, site-numbers, plan-numbers, run-numbers, run-plan-numbers}
 
 -- ==== Inputs are questioned in the order T, site, store to fill; or store, pattern, plan, rows memory. specs/Questions has a line for
 -- each way to be refused, with its number and what was passed before it: a call is refused with n exactly where such a line holds.
@@ -43,6 +44,29 @@ Run-Refusals = (words bytes steps memory : List ℕ) (n : ℕ) → (run words by
 
 pub run-refusals : Run-Refusals
 run-refusals = run-exactly
+
+-- So, of T at most 1,000, numbers 2 to 8 are given exactly where the site's reader gives them.
+abbrev pub Site-Numbers : Type 0
+Site-Numbers = (t : ℕ) (bytes memory : List ℕ) (n : ℕ) → t ≤ 1000 → Between 2 8 n → (build t bytes memory .answer ≡ Refused n) ↔ (readSite bytes ≡ refused n)
+
+pub site-numbers-are-exact : Site-Numbers
+site-numbers-are-exact = site-numbers
+
+-- Of a store, 11 to 17 are given exactly where the pattern's reader gives them, and 18 to 20 where the pattern is accepted and the plan's does.
+abbrev pub Store-Numbers : Type 0
+Store-Numbers =
+    (words : List ℕ) (t : ℕ) (site : Site) → Holds words t site → (bytes : List ℕ) (n : ℕ)
+    → (Between 11 17 n → (plan words bytes .answer ≡ Refused n) ↔ (readPattern site bytes ≡ refused n))
+    × ((steps memory : List ℕ) → Between 11 17 n → (run words bytes steps memory .answer ≡ Refused n) ↔ (readPattern site bytes ≡ refused n))
+    × ((steps memory : List ℕ) → Between 18 20 n → (run words bytes steps memory .answer ≡ Refused n)
+    ↔ ((pattern : Pattern) × (readPattern site bytes ≡ gives pattern) × (readPlan (storeAt t site) pattern steps ≡ refused n)))
+
+pub store-numbers-are-exact : Store-Numbers
+store-numbers-are-exact words t site holds bytes n = (
+  plan-numbers holds bytes n,
+  (λ steps memory. run-numbers holds bytes steps memory n),
+  λ steps memory. run-plan-numbers holds bytes steps memory n,
+)
 
 -- ==== Bytes are taken from the front: a file is refused with the number of its first element that is refused, or of its own questions
 
