@@ -2,6 +2,7 @@
 
 pub mod Answers
 pub mod Questions
+pub mod Memory
 pub mod Solutions
 pub mod Store
 pub mod Files

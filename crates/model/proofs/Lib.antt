@@ -40,6 +40,7 @@ pub mod Calls
 pub mod Success
 pub mod RefusedCalls
 pub mod ExactNumbers
+pub mod Memory
 pub mod Cases
 pub mod ChainRows
 pub mod Answers
