@@ -106,6 +106,15 @@ shown o = outcome (o .answer) (printed (o .answer) (o .memory))
 abbrev pub Case : Type 0
 Case = Outcome × Outcome
 
+-- the definitions give what document 01 says
+abbrev pub Hold : List Case → Type 0
+Hold cases = map (λ c. c .0) cases ≡ map (λ c. c .1) cases
+
+-- unfolds with all that a case computes
+unfoldable pub computing : Unit {0}
+unfolding after ask repeated wholeFile numberWithin numberIn number isSite facts isFact declaration row tables siteFile readSite vp semiJoin isStored semiJoins storedRows semiJoinEntries layout tablesIn decoded isStoreOf storeOf variables width fullTable askPosition askPredicate triplePattern patternFile readPattern qualifies reducedTable chosenTable mayChoose step readPlan tableRows chooseTable isJoined termCount chosenRows beats competitors pick order planned terms rowsOver isSolution solutions extend joinTable joined joinRows either build checked plan noneByCounts rowsOutcome run numberOf valuesOf planBytesOf isRefused planAndRun chain decimalWithin decimal spaced rowLine firstLine rowLines printed
+computing = tt
+
 abbrev pub cases : List Case
 cases =
     -- (a) 84 words, and a word past them; one stored table, SS of covers against in, 2 of 3 rows; 83 words: 9
@@ -205,6 +214,6 @@ cases =
     )
     ∷ []
 
-pub worked : map (λ c. c .0) cases ≡ map (λ c. c .1) cases
-unfolding after ask repeated wholeFile numberWithin numberIn number isSite facts isFact declaration row tables siteFile readSite vp semiJoin isStored semiJoins storedRows semiJoinEntries layout tablesIn decoded isStoreOf storeOf variables width fullTable askPosition askPredicate triplePattern patternFile readPattern qualifies reducedTable chosenTable mayChoose step readPlan tableRows chooseTable isJoined termCount chosenRows beats competitors pick order planned terms rowsOver isSolution solutions extend joinTable joined joinRows either build checked plan noneByCounts rowsOutcome run numberOf valuesOf planBytesOf isRefused planAndRun chain decimalWithin decimal spaced rowLine firstLine rowLines printed
+pub worked : Hold cases
+unfolding computing
 worked = refl

@@ -1,12 +1,28 @@
--- The worked shop, and the limits.
-use mathlib.Core.Path.{_≡_}
-use mathlib.Core.List.{map}
-use Rattle.model.proofs.Cases.{cases, worked}
+-- Cases by computation: what the definitions give against what document 01 says.
+use Rattle.model.proofs.Cases.{Hold, cases, worked}
+use Rattle.model.proofs.QuestionCases.{questionCases, questions-worked, OneStepJoined, one-step-joined}
 
--- ==== The worked shop: cases (a) to (j), what the definitions give against what document 01 says
+-- ==== The worked shop: cases (a) to (j)
 
 abbrev pub Cases-Hold : Type 0
-Cases-Hold = map (λ c. c .0) cases ≡ map (λ c. c .1) cases
+Cases-Hold = Hold cases
 
 pub cases-hold : Cases-Hold
 cases-hold = worked
+
+-- ==== Questions before an answer: each answered no, at its limit where it has one; of two faults the one that is met first, as bytes are
+-- taken from the front; and answers at the limits, a planner's ties, and what is printed
+
+abbrev pub Question-Cases-Hold : Type 0
+Question-Cases-Hold = Hold questionCases
+
+pub question-cases-hold : Question-Cases-Hold
+question-cases-hold = questions-worked
+
+-- ==== A step keeps each partial solution with each row of its own table that agrees: two rows of the reduced table, and not the three of VP
+
+abbrev pub One-Step-Joined : Type 0
+One-Step-Joined = OneStepJoined
+
+pub step-joins-its-table : One-Step-Joined
+step-joins-its-table = one-step-joined

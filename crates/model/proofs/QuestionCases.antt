@@ -1,0 +1,287 @@
+-- Further cases by computation: each question answered no, at its limit where it has one, and two faults at once; then answers.
+use Prim.Native.Nat.{ℕ, _-_, _*_}
+use mathlib.Core.Path.{_≡_, refl}
+use mathlib.Core.Option.{none, some}
+use mathlib.Core.List.{List, [], _∷_, _++_, map}
+use lib.ListN.{take, replicate}
+use Rattle.model.specs.Lists.{concatMap, below}
+use Rattle.model.specs.SiteFile.{readSite}
+use Rattle.model.specs.PatternFile.{readPattern}
+use Rattle.model.specs.Join.{Partial, joined}
+use Rattle.model.specs.Calls.{outcome, build, plan, run}
+use Rattle.model.specs.Chain.{chain}
+use Rattle.model.specs.declared.answer.Answer.the-variants.{Rows, None, Built, Refused}
+use Rattle.model.specs.declared.answer.Answer.the-variants.{Plan as PlanAnswer}
+use Rattle.model.proofs.Cases.{shop, check, lent, stored, unstored, planOutcome, siteIn, patternIn, shown, Case, Hold, computing}
+
+-- bytes, and the number of the question that is answered no
+abbrev pub Refusal : Type 0
+Refusal = List ℕ × ℕ
+
+-- ---- sites
+
+abbrev pub refusedSites : List Refusal
+refusedSites =
+    -- 2: a number is missing, has more than three bytes, or is not in shortest form
+    (0x01 ∷ 0x05 ∷ [], 2)
+    ∷ (0x80 ∷ 0x80 ∷ 0x80 ∷ 0x01 ∷ [], 2)
+    ∷ (0x01 ∷ 0x85 ∷ 0x00 ∷ [], 2)
+    -- 3: 17 predicates
+    ∷ (0x11 ∷ [], 3)
+    -- 4: predicate 65,536; a predicate equal to the one before it, or below it
+    ∷ (0x01 ∷ 0x80 ∷ 0x80 ∷ 0x04 ∷ [], 4)
+    ∷ (0x02 ∷ 0x05 ∷ 0x00 ∷ 0x05 ∷ [], 4)
+    ∷ (0x02 ∷ 0x05 ∷ 0x00 ∷ 0x04 ∷ [], 4)
+    -- 5: 1,025 rows of one predicate, or of two together; of 1,024 the first is asked for
+    ∷ (0x01 ∷ 0x05 ∷ 0x81 ∷ 0x08 ∷ [], 5)
+    ∷ (0x02 ∷ 0x05 ∷ 0x80 ∷ 0x08 ∷ 0x06 ∷ 0x01 ∷ [], 5)
+    ∷ (0x01 ∷ 0x05 ∷ 0x80 ∷ 0x08 ∷ [], 2)
+    -- 6: subject 65,536; object 65,536
+    ∷ (0x01 ∷ 0x05 ∷ 0x01 ∷ 0x80 ∷ 0x80 ∷ 0x04 ∷ [], 6)
+    ∷ (0x01 ∷ 0x05 ∷ 0x01 ∷ 0x0A ∷ 0x80 ∷ 0x80 ∷ 0x04 ∷ [], 6)
+    -- 7: a row equal to the one before it; its object below; its subject below, though its object is above
+    ∷ (0x01 ∷ 0x05 ∷ 0x02 ∷ 0x0A ∷ 0x14 ∷ 0x0A ∷ 0x14 ∷ [], 7)
+    ∷ (0x01 ∷ 0x05 ∷ 0x02 ∷ 0x0A ∷ 0x14 ∷ 0x0A ∷ 0x13 ∷ [], 7)
+    ∷ (0x01 ∷ 0x05 ∷ 0x02 ∷ 0x0A ∷ 0x14 ∷ 0x09 ∷ 0x15 ∷ [], 7)
+    -- 8: a byte more, which is not read as a number
+    ∷ (0x00 ∷ 0x80 ∷ [], 8)
+    -- two faults: 5 of the first predicate and 4 of the second; 4 and 5 of the second
+    ∷ (0x02 ∷ 0x05 ∷ 0x81 ∷ 0x08 ∷ 0x05 ∷ [], 5)
+    ∷ (0x02 ∷ 0x05 ∷ 0x00 ∷ 0x05 ∷ 0x81 ∷ 0x08 ∷ [], 4)
+    -- 5 of the second predicate and 6 in the rows of the first
+    ∷ (0x02 ∷ 0x05 ∷ 0x01 ∷ 0x06 ∷ 0x80 ∷ 0x08 ∷ 0x80 ∷ 0x80 ∷ 0x04 ∷ [], 5)
+    -- 6 and 7 of one row; 7 of a row and 6 of the next; 7 of the last row and a byte more
+    ∷ (0x01 ∷ 0x05 ∷ 0x02 ∷ 0x0A ∷ 0x14 ∷ 0x09 ∷ 0x80 ∷ 0x80 ∷ 0x04 ∷ [], 6)
+    ∷ (0x01 ∷ 0x05 ∷ 0x03 ∷ 0x0A ∷ 0x14 ∷ 0x0A ∷ 0x14 ∷ 0x80 ∷ 0x80 ∷ 0x04 ∷ [], 7)
+    ∷ (0x01 ∷ 0x05 ∷ 0x02 ∷ 0x0A ∷ 0x14 ∷ 0x0A ∷ 0x14 ∷ 0x00 ∷ [], 7)
+    ∷ []
+
+abbrev pub siteRefusal : Refusal → Case
+siteRefusal c = (build 1000 (c .0) (lent 4), outcome (Refused (c .1)) (lent 4))
+
+-- predicate 1 without rows, and 2 with the row 10 20
+abbrev pub oneEmpty : List ℕ
+oneEmpty = 0x02 ∷ 0x01 ∷ 0x00 ∷ 0x02 ∷ 0x01 ∷ 0x0A ∷ 0x14 ∷ []
+
+-- the empty table starts where its rows would
+abbrev pub oneEmptyWords : List ℕ
+oneEmptyWords =
+    2 ∷ 1000 ∷ 35 ∷ 1 ∷ 0 ∷ 33 ∷ 2 ∷ 1 ∷ 33
+    -- 1 against 1 and 2, and 2 against 1; then 2 against 2, and the row
+    ∷ (replicate 18 0 ++ 1 ∷ 0 ∷ 0 ∷ 0 ∷ 0 ∷ 0 ∷ 10 ∷ 20 ∷ [])
+
+-- predicate 65,535 with the rows 300 65,535 and 65,535 300: numbers of two and three bytes
+abbrev pub longNumbers : List ℕ
+longNumbers = 0x01 ∷ 0xFF ∷ 0xFF ∷ 0x03 ∷ 0x02 ∷ 0xAC ∷ 0x02 ∷ 0xFF ∷ 0xFF ∷ 0x03 ∷ 0xFF ∷ 0xFF ∷ 0x03 ∷ 0xAC ∷ 0x02 ∷ []
+
+-- predicates 0 to 15, none with rows
+abbrev pub sixteenEmpty : List ℕ
+sixteenEmpty = 0x10 ∷ concatMap (λ p. p ∷ 0x00 ∷ []) (below 16)
+
+abbrev pub buildCases : List Case
+buildCases =
+    -- 1: T 1,001, whatever the site; T 0: no table is stored
+    (build 1001 shop (lent 84), outcome (Refused 1) (lent 84))
+    ∷ (build 1001 [] (lent 84), outcome (Refused 1) (lent 84))
+    ∷ (build 0 shop (lent 80), outcome (Built 80) (unstored 0))
+    -- 8: the shop and a byte more; it is asked before 9
+    ∷ (build 1000 (shop ++ 0x00 ∷ []) (lent 84), outcome (Refused 8) (lent 84))
+    ∷ (build 1000 (0x00 ∷ 0x00 ∷ []) [], outcome (Refused 8) [])
+    ∷ (build 1000 (0x00 ∷ []) (lent 2), outcome (Refused 9) (lent 2))
+    -- within the limits
+    ∷ (build 1000 oneEmpty (lent 35), outcome (Built 35) oneEmptyWords)
+    ∷ (
+      build 1000 longNumbers (lent 16),
+      outcome (Built 16) (1 ∷ 1000 ∷ 16 ∷ 65535 ∷ 2 ∷ 12 ∷ 2 ∷ 0 ∷ 2 ∷ 0 ∷ 2 ∷ 0 ∷ 300 ∷ 65535 ∷ 65535 ∷ 300 ∷ []),
+    )
+    ∷ (
+      build 1000 sixteenEmpty (lent 1587),
+      outcome (Built 1587) (16 ∷ 1000 ∷ 1587 ∷ (concatMap (λ p. p ∷ 0 ∷ 1587 ∷ []) (below 16) ++ replicate 1536 0)),
+    )
+    ∷ []
+
+-- ---- checks
+
+-- predicates 1 and 2 are declared
+abbrev pub refusedChecks : List Refusal
+refusedChecks =
+    -- 11: a number is missing, does not end, has more than three bytes, or is not in shortest form
+    ([], 11)
+    ∷ (0x01 ∷ 0x01 ∷ 0x04 ∷ [], 11)
+    ∷ (0x01 ∷ 0x81 ∷ [], 11)
+    ∷ (0x80 ∷ 0x80 ∷ 0x80 ∷ 0x01 ∷ [], 11)
+    ∷ (0x01 ∷ 0x81 ∷ 0x00 ∷ [], 11)
+    -- 12: 9 triple patterns
+    ∷ (0x09 ∷ [], 12)
+    -- 13: a variable; term 65,536
+    ∷ (0x01 ∷ 0x01 ∷ 0x03 ∷ [], 13)
+    ∷ (0x01 ∷ 0x01 ∷ 0x80 ∷ 0x80 ∷ 0x08 ∷ [], 13)
+    -- 14: 65,535 is a term, and not declared
+    ∷ (0x01 ∷ 0x01 ∷ 0xFE ∷ 0xFF ∷ 0x07 ∷ [], 14)
+    -- 15: subject 65,536; object 65,536
+    ∷ (0x01 ∷ 0x80 ∷ 0x80 ∷ 0x08 ∷ [], 15)
+    ∷ (0x01 ∷ 0x01 ∷ 0x04 ∷ 0x80 ∷ 0x80 ∷ 0x08 ∷ [], 15)
+    -- 16: ?1 first; ?2 behind ?0; ?8 first, and as the ninth variable
+    ∷ (0x01 ∷ 0x03 ∷ [], 16)
+    ∷ (0x01 ∷ 0x01 ∷ 0x04 ∷ 0x05 ∷ [], 16)
+    ∷ (0x01 ∷ 0x11 ∷ [], 16)
+    ∷ (0x05 ∷ 0x01 ∷ 0x04 ∷ 0x03 ∷ 0x05 ∷ 0x04 ∷ 0x07 ∷ 0x09 ∷ 0x04 ∷ 0x0B ∷ 0x0D ∷ 0x04 ∷ 0x0F ∷ 0x11 ∷ [], 16)
+    -- 17: a byte more, which is not read as a number
+    ∷ (0x01 ∷ 0x14 ∷ 0x04 ∷ 0x28 ∷ 0x80 ∷ [], 17)
+    -- two faults: 15 or 16 of the subject and 13 of the predicate
+    ∷ (0x01 ∷ 0x80 ∷ 0x80 ∷ 0x08 ∷ 0x03 ∷ [], 15)
+    ∷ (0x01 ∷ 0x03 ∷ 0x03 ∷ [], 16)
+    -- 13 or 14 of the predicate and 15 or 16 of the object
+    ∷ (0x01 ∷ 0x01 ∷ 0x03 ∷ 0x80 ∷ 0x80 ∷ 0x08 ∷ [], 13)
+    ∷ (0x01 ∷ 0x01 ∷ 0x06 ∷ 0x05 ∷ [], 14)
+    -- 15 of the first object and 13 of the second predicate
+    ∷ (0x02 ∷ 0x01 ∷ 0x04 ∷ 0x80 ∷ 0x80 ∷ 0x08 ∷ 0x01 ∷ 0x03 ∷ [], 15)
+    ∷ []
+
+-- by both calls that are given a check
+abbrev pub checkRefusals : Refusal → List Case
+checkRefusals c =
+    (planOutcome (plan oneEmptyWords (c .0)), outcome (Refused (c .1)) (replicate 17 0))
+    ∷ (run oneEmptyWords (c .0) [] (lent 4), outcome (Refused (c .1)) (lent 4))
+    ∷ []
+
+-- ---- plans
+
+-- of the shop's check
+abbrev pub refusedPlans : List Refusal
+refusedPlans =
+    -- 18: no step; no choice; a choice that does not end, or is not in shortest form; a step short; a byte more
+    ([], 18)
+    ∷ (0x00 ∷ [], 18)
+    ∷ (0x00 ∷ 0x80 ∷ [], 18)
+    ∷ (0x00 ∷ 0x84 ∷ 0x00 ∷ [], 18)
+    ∷ (0x00 ∷ 0x00 ∷ 0x01 ∷ 0x00 ∷ [], 18)
+    ∷ (0x00 ∷ 0x00 ∷ 0x01 ∷ 0x00 ∷ 0x02 ∷ 0x00 ∷ 0x00 ∷ [], 18)
+    -- 19: place 3 of three
+    ∷ (0x03 ∷ [], 19)
+    -- 20: a table against its own place, against place 3, of a kind that does not qualify; SS of in against covers, which is whole and so not stored
+    ∷ (0x00 ∷ 0x01 ∷ [], 20)
+    ∷ (0x00 ∷ 0x0A ∷ [], 20)
+    ∷ (0x00 ∷ 0x05 ∷ [], 20)
+    ∷ (0x01 ∷ 0x01 ∷ [], 20)
+    -- two faults: 19 of the place and 18 of its choice; 20 of a choice and 19 of the next place
+    ∷ (0x00 ∷ 0x00 ∷ 0x00 ∷ [], 19)
+    ∷ (0x00 ∷ 0x01 ∷ 0x00 ∷ [], 20)
+    ∷ []
+
+abbrev pub planRefusal : Refusal → Case
+planRefusal c = (run (stored 1000) check (c .0) (lent 3), outcome (Refused (c .1)) (lent 3))
+
+-- ---- runs
+
+-- case (h)
+abbrev pub crossJoin : List ℕ
+crossJoin = 0x02 ∷ 0x01 ∷ 0x04 ∷ 0x3C ∷ 0x03 ∷ 0x06 ∷ 0x52 ∷ []
+
+-- predicate 0 with the row 0 0
+abbrev pub onlyZero : List ℕ
+onlyZero = 1 ∷ 1000 ∷ 14 ∷ 0 ∷ 1 ∷ 12 ∷ 1 ∷ 0 ∷ 1 ∷ 0 ∷ 1 ∷ 0 ∷ 0 ∷ 0 ∷ []
+
+-- ?0 0 ?1, ?2 0 ?3, ?4 0 ?5, ?6 0 ?7
+abbrev pub eightVariables : List ℕ
+eightVariables = 0x04 ∷ 0x01 ∷ 0x00 ∷ 0x03 ∷ 0x05 ∷ 0x00 ∷ 0x07 ∷ 0x09 ∷ 0x00 ∷ 0x0B ∷ 0x0D ∷ 0x00 ∷ 0x0F ∷ []
+
+abbrev pub runCases : List Case
+runCases =
+    -- 10: no words; a word short; T 1,001; a table stored that is not at T 666; the T of another good store
+    (run [] [] [] (lent 3), outcome (Refused 10) (lent 3))
+    ∷ (run (take 83 (stored 1000)) check [] (lent 3), outcome (Refused 10) (lent 3))
+    ∷ (run (stored 1001) check [] (lent 3), outcome (Refused 10) (lent 3))
+    ∷ (run (stored 666) check [] (lent 3), outcome (Refused 10) (lent 3))
+    ∷ (run (stored 999) check [] (lent 3), outcome (Refused 18) (lent 3))
+    -- T 666, and the table that is stored at T 667: 20
+    ∷ (run (unstored 666) check (0x00 ∷ 0x04 ∷ 0x01 ∷ 0x00 ∷ 0x02 ∷ 0x00 ∷ []) (lent 3), outcome (Refused 20) (lent 3))
+    -- the table of predicate 1 is empty: 18, 19 or 20 of a bad plan, and else None, for which no room is asked
+    ∷ (run oneEmptyWords (0x01 ∷ 0x01 ∷ 0x02 ∷ 0x03 ∷ []) [] [], outcome (Refused 18) [])
+    ∷ (run oneEmptyWords (0x01 ∷ 0x01 ∷ 0x02 ∷ 0x03 ∷ []) (0x01 ∷ 0x00 ∷ []) [], outcome (Refused 19) [])
+    ∷ (run oneEmptyWords (0x01 ∷ 0x01 ∷ 0x02 ∷ 0x03 ∷ []) (0x00 ∷ 0x01 ∷ []) [], outcome (Refused 20) [])
+    ∷ (run oneEmptyWords (0x01 ∷ 0x01 ∷ 0x02 ∷ 0x03 ∷ []) (0x00 ∷ 0x00 ∷ []) [], outcome None [])
+    -- 21: two rows of two in three words and in four; a row of no words fits no words
+    ∷ (run (stored 1000) crossJoin (0x00 ∷ 0x00 ∷ 0x01 ∷ 0x00 ∷ []) (lent 3), outcome (Refused 21) (lent 3))
+    ∷ (run (stored 1000) crossJoin (0x00 ∷ 0x00 ∷ 0x01 ∷ 0x00 ∷ []) (lent 4), outcome (Rows 2 2) (10 ∷ 21 ∷ 11 ∷ 21 ∷ []))
+    ∷ (run oneEmptyWords (0x01 ∷ 0x14 ∷ 0x04 ∷ 0x28 ∷ []) (0x00 ∷ 0x00 ∷ []) [], outcome (Rows 1 0) [])
+    -- 8 triple patterns; 8 variables; subject 65,535, which no row has
+    ∷ (
+      run oneEmptyWords (0x08 ∷ concatMap (λ _. 0x14 ∷ 0x04 ∷ 0x28 ∷ []) (below 8)) (concatMap (λ i. i ∷ 0x00 ∷ []) (below 8)) [],
+      outcome (Rows 1 0) [],
+    )
+    ∷ (
+      run onlyZero eightVariables (0x00 ∷ 0x00 ∷ 0x01 ∷ 0x00 ∷ 0x02 ∷ 0x00 ∷ 0x03 ∷ 0x00 ∷ []) (lent 9),
+      outcome (Rows 1 8) (replicate 8 0 ++ 7 ∷ []),
+    )
+    ∷ (run oneEmptyWords (0x01 ∷ 0xFE ∷ 0xFF ∷ 0x07 ∷ 0x04 ∷ 0x01 ∷ []) (0x00 ∷ 0x00 ∷ []) (lent 1), outcome None (lent 1))
+    ∷ []
+
+-- ---- the planner
+
+-- 1 has the rows 10 20 and 11 21, 2 has 10 30, 3 has 10 40, 4 has 21 10
+abbrev pub tied : List ℕ
+tied =
+    0x04 ∷ 0x01 ∷ 0x02 ∷ 0x02 ∷ 0x01 ∷ 0x03 ∷ 0x01 ∷ 0x04 ∷ 0x01 ∷ 0x0A ∷ 0x14 ∷ 0x0B ∷ 0x15 ∷ 0x0A ∷ 0x1E ∷ 0x0A ∷ 0x28 ∷ 0x15 ∷ 0x0A ∷ []
+
+abbrev pub planOf : List ℕ → List ℕ → ℕ → Case
+planOf bytes steps count =
+    (planOutcome (plan (build 1000 tied (lent 150) .memory) bytes), outcome PlanAnswer (steps ++ (replicate (16 - 2 * count) 0 ++ count ∷ [])))
+
+abbrev pub plannerCases : List Case
+plannerCases =
+    -- ?0 1 ?1, ?0 2 ?2, ?0 3 ?3: SS against 2 and against 3 leave one row each, and the lower j is chosen; of the chosen tables, each of
+    -- one row, the lowest place is first, though VP of 1 has two
+    planOf (0x03 ∷ 0x01 ∷ 0x02 ∷ 0x03 ∷ 0x01 ∷ 0x04 ∷ 0x05 ∷ 0x01 ∷ 0x06 ∷ 0x07 ∷ []) (0 ∷ 4 ∷ 1 ∷ 0 ∷ 2 ∷ 0 ∷ []) 3
+    -- ?0 1 ?1, ?1 4 ?0: OS and SO leave one row each, and the lower k is chosen
+    ∷ planOf (0x02 ∷ 0x01 ∷ 0x02 ∷ 0x03 ∷ 0x03 ∷ 0x08 ∷ 0x01 ∷ []) (0 ∷ 5 ∷ 1 ∷ 0 ∷ []) 2
+    ∷ []
+
+-- ---- what is printed
+
+abbrev pub printedCases : List Case
+printedCases =
+    -- rows 2 width 2, 10 21 and 11 21
+    (
+      shown (chain shop crossJoin (lent 4)),
+      outcome (Rows 2 2)
+          (114 ∷ 111 ∷ 119 ∷ 115 ∷ 32 ∷ 50 ∷ 32 ∷ 119 ∷ 105 ∷ 100 ∷ 116 ∷ 104 ∷ 32 ∷ 50 ∷ 10
+          ∷ 49 ∷ 48 ∷ 32 ∷ 50 ∷ 49 ∷ 10 ∷ 49 ∷ 49 ∷ 32 ∷ 50 ∷ 49 ∷ 10 ∷ []),
+    )
+    -- rows 1 width 0, and an empty line
+    ∷ (
+      shown (chain shop (0x01 ∷ 0x14 ∷ 0x02 ∷ 0x28 ∷ []) []),
+      outcome (Rows 1 0) (114 ∷ 111 ∷ 119 ∷ 115 ∷ 32 ∷ 49 ∷ 32 ∷ 119 ∷ 105 ∷ 100 ∷ 116 ∷ 104 ∷ 32 ∷ 48 ∷ 10 ∷ 10 ∷ []),
+    )
+    -- 300 65,535 ?0: rows 1 width 1, and 65535
+    ∷ (
+      shown (chain longNumbers (0x01 ∷ 0xD8 ∷ 0x04 ∷ 0xFE ∷ 0xFF ∷ 0x07 ∷ 0x01 ∷ []) (lent 1)),
+      outcome (Rows 1 1) (114 ∷ 111 ∷ 119 ∷ 115 ∷ 32 ∷ 49 ∷ 32 ∷ 119 ∷ 105 ∷ 100 ∷ 116 ∷ 104 ∷ 32 ∷ 49 ∷ 10 ∷ 54 ∷ 53 ∷ 53 ∷ 51 ∷ 53 ∷ 10 ∷ []),
+    )
+    ∷ []
+
+-- ---- all of them
+
+abbrev pub questionCases : List Case
+questionCases =
+    map siteRefusal refusedSites
+    ++ (buildCases ++ (concatMap checkRefusals refusedChecks ++ (map planRefusal refusedPlans ++ (runCases ++ (plannerCases ++ printedCases)))))
+
+pub questions-worked : Hold questionCases
+unfolding computing
+questions-worked = refl
+
+-- ---- the join
+
+abbrev pub met : ℕ → ℕ → Partial
+met x y = some x ∷ some y ∷ replicate 6 none
+
+-- the shop's check after its first step, with choice 4 at place 0: the two rows of the reduced table, and not the three of VP
+abbrev pub OneStepJoined : Type 0
+OneStepJoined =
+    let site = siteIn (readSite shop) in
+    joined site (patternIn (readPattern site check)) (record { place = 0; choice = 4 } ∷ []) 1 ≡ met 10 20 ∷ met 11 21 ∷ []
+
+pub one-step-joined : OneStepJoined
+unfolding computing
+one-step-joined = refl
