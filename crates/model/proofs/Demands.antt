@@ -7,4 +7,5 @@ pub mod Solutions
 pub mod Store
 pub mod Files
 pub mod Planner
+pub mod Limits
 pub mod Cases
