@@ -42,7 +42,7 @@ pub mod RefusedCalls
 pub mod ExactNumbers
 pub mod Memory
 pub mod Cases
-pub mod QuestionCases
+pub mod AnswerCases
 pub mod ChainRows
 pub mod Answers
 pub mod StoreSize

@@ -1,6 +1,6 @@
 -- Cases by computation: what the definitions give against what document 01 says.
 use Rattle.model.proofs.Cases.{Hold, cases, worked}
-use Rattle.model.proofs.QuestionCases.{questionCases, questions-worked, OneStepJoined, one-step-joined}
+use Rattle.model.proofs.AnswerCases.{AnswerCases, answer-cases, OneStepJoined, one-step-joined}
 
 -- ==== The worked shop: cases (a) to (j)
 
@@ -13,11 +13,11 @@ cases-hold = worked
 -- ==== Questions before an answer: each answered no, at its limit where it has one; of two faults the one that is met first, as bytes are
 -- taken from the front; and answers at the limits, a planner's ties, and what is printed
 
-abbrev pub Question-Cases-Hold : Type 0
-Question-Cases-Hold = Hold questionCases
+abbrev pub Answer-Cases-Hold : Type 0
+Answer-Cases-Hold = AnswerCases
 
-pub question-cases-hold : Question-Cases-Hold
-question-cases-hold = questions-worked
+pub answer-cases-hold : Answer-Cases-Hold
+answer-cases-hold = answer-cases
 
 -- ==== A step keeps each partial solution with each row of its own table that agrees: two rows of the reduced table, and not the three of VP
 
