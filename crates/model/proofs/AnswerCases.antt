@@ -7,6 +7,7 @@ use lib.ListN.{take, replicate}
 use Rattle.model.specs.Lists.{concatMap, below}
 use Rattle.model.specs.SiteFile.{readSite}
 use Rattle.model.specs.PatternFile.{readPattern}
+use Rattle.model.specs.Plan.{Plan}
 use Rattle.model.specs.Join.{Partial, joined}
 use Rattle.model.specs.Calls.{outcome, build, plan, run}
 use Rattle.model.specs.Chain.{chain}
@@ -59,6 +60,10 @@ refusedSites =
 abbrev pub siteRefusal : Refusal → Case
 siteRefusal c = (build 1000 (c .0) (lent 4), outcome (Refused (c .1)) (lent 4))
 
+pub sites-refused : Hold (map siteRefusal refusedSites)
+unfolding computing
+sites-refused = refl
+
 -- predicate 1 without rows, and 2 with the row 10 20
 abbrev pub oneEmpty : List ℕ
 oneEmpty = 0x02 ∷ 0x01 ∷ 0x00 ∷ 0x02 ∷ 0x01 ∷ 0x0A ∷ 0x14 ∷ []
@@ -99,6 +104,10 @@ buildCases =
       outcome (Built 1587) (16 ∷ 1000 ∷ 1587 ∷ (concatMap (λ p. p ∷ 0 ∷ 1587 ∷ []) (below 16) ++ replicate 1536 0)),
     )
     ∷ []
+
+pub builds-worked : Hold buildCases
+unfolding computing
+builds-worked = refl
 
 -- ---- checks
 
@@ -145,6 +154,10 @@ checkRefusals c =
     ∷ (run oneEmptyWords (c .0) [] (lent 4), outcome (Refused (c .1)) (lent 4))
     ∷ []
 
+pub checks-refused : Hold (concatMap checkRefusals refusedChecks)
+unfolding computing
+checks-refused = refl
+
 -- ---- plans
 
 -- of the shop's check
@@ -171,6 +184,10 @@ refusedPlans =
 
 abbrev pub planRefusal : Refusal → Case
 planRefusal c = (run (stored 1000) check (c .0) (lent 3), outcome (Refused (c .1)) (lent 3))
+
+pub plans-refused : Hold (map planRefusal refusedPlans)
+unfolding computing
+plans-refused = refl
 
 -- ---- runs
 
@@ -217,6 +234,24 @@ runCases =
     ∷ (run oneEmptyWords (0x01 ∷ 0xFE ∷ 0xFF ∷ 0x07 ∷ 0x04 ∷ 0x01 ∷ []) (0x00 ∷ 0x00 ∷ []) (lent 1), outcome None (lent 1))
     ∷ []
 
+pub runs-worked : Hold runCases
+unfolding computing
+runs-worked = refl
+
+-- ---- the join
+
+-- the partial solutions of the shop's check after the first n steps of a plan
+abbrev pub shopJoined : Plan → ℕ → List Partial
+shopJoined plan n = let site = siteIn (readSite shop) in joined site (patternIn (readPattern site check)) plan n
+
+-- two variables met
+abbrev pub met : ℕ → ℕ → Partial
+met x y = some x ∷ some y ∷ replicate 6 none
+
+pub first-step : shopJoined (record { place = 0; choice = 4 } ∷ []) 1 ≡ met 10 20 ∷ met 11 21 ∷ []
+unfolding computing
+first-step = refl
+
 -- ---- the planner
 
 -- 1 has the rows 10 20 and 11 21, 2 has 10 30, 3 has 10 40, 4 has 21 10
@@ -236,6 +271,10 @@ plannerCases =
     -- ?0 1 ?1, ?1 4 ?0: OS and SO leave one row each, and the lower k is chosen
     ∷ planOf (0x02 ∷ 0x01 ∷ 0x02 ∷ 0x03 ∷ 0x03 ∷ 0x08 ∷ 0x01 ∷ []) (0 ∷ 5 ∷ 1 ∷ 0 ∷ []) 2
     ∷ []
+
+pub plans-worked : Hold plannerCases
+unfolding computing
+plans-worked = refl
 
 -- ---- what is printed
 
@@ -260,33 +299,6 @@ printedCases =
     )
     ∷ []
 
--- ---- all of them
-
-abbrev pub AnswerCases : Type 0
-AnswerCases =
-    Hold (map siteRefusal refusedSites)
-    × Hold buildCases
-    × Hold (concatMap checkRefusals refusedChecks)
-    × Hold (map planRefusal refusedPlans)
-    × Hold runCases
-    × Hold plannerCases
-    × Hold printedCases
-
-pub answer-cases : AnswerCases
+pub printed-worked : Hold printedCases
 unfolding computing
-answer-cases = (refl, refl, refl, refl, refl, refl, refl)
-
--- ---- the join
-
-abbrev pub met : ℕ → ℕ → Partial
-met x y = some x ∷ some y ∷ replicate 6 none
-
--- the shop's check after its first step, with choice 4 at place 0: the two rows of the reduced table, and not the three of VP
-abbrev pub OneStepJoined : Type 0
-OneStepJoined =
-    let site = siteIn (readSite shop) in
-    joined site (patternIn (readPattern site check)) (record { place = 0; choice = 4 } ∷ []) 1 ≡ met 10 20 ∷ met 11 21 ∷ []
-
-pub one-step-joined : OneStepJoined
-unfolding computing
-one-step-joined = refl
+printed-worked = refl

@@ -1,6 +1,9 @@
 -- Cases by computation: what the definitions give against what document 01 says.
+use mathlib.Core.Path.{_≡_}
+use mathlib.Core.List.{[], _∷_, map}
+use Rattle.model.specs.Lists.{concatMap}
 use Rattle.model.proofs.Cases.{Hold, cases, worked}
-use Rattle.model.proofs.AnswerCases.{AnswerCases, answer-cases, OneStepJoined, one-step-joined}
+use Rattle.model.proofs.AnswerCases.{refusedSites, siteRefusal, sites-refused, buildCases, builds-worked, refusedChecks, checkRefusals, checks-refused, refusedPlans, planRefusal, plans-refused, runCases, runs-worked, shopJoined, met, first-step, plannerCases, plans-worked, printedCases, printed-worked}
 
 -- ==== The worked shop: cases (a) to (j)
 
@@ -11,18 +14,28 @@ pub cases-hold : Cases-Hold
 cases-hold = worked
 
 -- ==== Questions before an answer: each answered no, at its limit where it has one; of two faults the one that is met first, as bytes are
--- taken from the front; and answers at the limits, a planner's ties, and what is printed
+-- taken from the front
 
-abbrev pub Answer-Cases-Hold : Type 0
-Answer-Cases-Hold = AnswerCases
+abbrev pub Refusals-Hold : Type 0
+Refusals-Hold =
+    Hold (map siteRefusal refusedSites) × Hold (concatMap checkRefusals refusedChecks) × Hold (map planRefusal refusedPlans)
 
-pub answer-cases-hold : Answer-Cases-Hold
-answer-cases-hold = answer-cases
+pub refusals-hold : Refusals-Hold
+refusals-hold = (sites-refused, checks-refused, plans-refused)
 
--- ==== A step keeps each partial solution with each row of its own table that agrees: two rows of the reduced table, and not the three of VP
+-- ==== Built and Rows at the limits, None that is asked after 20 and needs no room, the planner's ties, and what is printed
 
-abbrev pub One-Step-Joined : Type 0
-One-Step-Joined = OneStepJoined
+abbrev pub Answers-Hold : Type 0
+Answers-Hold = Hold buildCases × Hold runCases × Hold plannerCases × Hold printedCases
 
-pub step-joins-its-table : One-Step-Joined
-step-joins-its-table = one-step-joined
+pub answers-hold : Answers-Hold
+answers-hold = (builds-worked, runs-worked, plans-worked, printed-worked)
+
+-- ==== A step keeps each partial solution with each row of its table that agrees: choice 4 at place 0 of the shop's check gives the two
+-- rows of the reduced table, and not the three of VP
+
+abbrev pub First-Step-Joined : Type 0
+First-Step-Joined = shopJoined (record { place = 0; choice = 4 } ∷ []) 1 ≡ met 10 20 ∷ met 11 21 ∷ []
+
+pub first-step-joined : First-Step-Joined
+first-step-joined = first-step
