@@ -205,10 +205,10 @@ eightVariables = 0x04 ∷ 0x01 ∷ 0x00 ∷ 0x03 ∷ 0x05 ∷ 0x00 ∷ 0x07 ∷ 
 
 abbrev pub runCases : List Case
 runCases =
-    -- 10: no words; a word short; T 1,001; a table stored that is not at T 666; the T of another good store
+    -- 10: no words; a word short; T 1,001 of a site of no predicates; a table stored that is not at T 666; not 10: T 999, where the same is stored
     (run [] [] [] (lent 3), outcome (Refused 10) (lent 3))
     ∷ (run (take 83 (stored 1000)) check [] (lent 3), outcome (Refused 10) (lent 3))
-    ∷ (run (stored 1001) check [] (lent 3), outcome (Refused 10) (lent 3))
+    ∷ (run (0 ∷ 1001 ∷ 3 ∷ []) check [] (lent 3), outcome (Refused 10) (lent 3))
     ∷ (run (stored 666) check [] (lent 3), outcome (Refused 10) (lent 3))
     ∷ (run (stored 999) check [] (lent 3), outcome (Refused 18) (lent 3))
     -- T 666, and the table that is stored at T 667: 20
