@@ -20,6 +20,7 @@ pub mod PlanFile
 pub mod RefusedElements
 pub mod RefusedTriples
 pub mod RefusedFiles
+pub mod Prefixes
 pub mod Join
 pub mod Plans
 pub mod Equation

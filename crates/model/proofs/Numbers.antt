@@ -78,7 +78,7 @@ record Within (k : ℕ) (alone : Bool) (bytes : List ℕ) (x : Sized) : Type 0 w
   small : x .0 < 128 ^ k
   shortest : (alone || not (eqb (x .0) 0)) ≡ true
 
-none≢some : {X : Type 0} {x : Sized} → none ≡ some x → X
+pub none≢some : {X : Type 0} {x : Sized} → none ≡ some x → X
 none≢some h = let z : _≡_ {A = ℕ} 0 1 = cc in absurd (omega arith)
 
 last-read : (k : ℕ) (alone : Bool) (b : ℕ) (bs : List ℕ) {x : Sized} → ltb b 128 ≡ true → lastGroup alone b ≡ some x

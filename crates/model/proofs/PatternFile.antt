@@ -10,7 +10,7 @@ use borrow.Author.Tests.{ltb-true, leb-true, eqb-true, eqb-false, eq-eqb, ne-eqb
 use Rattle.model.specs.Lists.{concatMap}
 use Rattle.model.specs.Reader.{gives, after, ask}
 use Rattle.model.specs.Numbers.{areBytes, mostTerm, isTerm, numberBytes, numberLimit}
-use Rattle.model.specs.Files.{FileIsExact}
+use Rattle.model.specs.ExactFile.{FileIsExact}
 use Rattle.model.specs.Site.{Site, isDeclared}
 use Rattle.model.specs.Pattern.{Pattern, mostTriplePatterns, mostVariables, positions, variables, width, isPosition, isPredicate, isTriplePattern, areTriplePatterns, isPatternLength, isAccepted}
 use Rattle.model.specs.PatternFile.{positionOf, askPosition, askPredicate, triplePattern, patternFile, readPattern, positionNumber, positionBytes, triplePatternBytes, patternBytes}

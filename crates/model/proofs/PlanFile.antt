@@ -10,7 +10,7 @@ use borrow.Author.Tests.{ltb-true, eqb-true, eq-eqb}
 use Rattle.model.specs.Lists.{all, any, concatMap}
 use Rattle.model.specs.Reader.{gives, after, ask, repeated}
 use Rattle.model.specs.Numbers.{areBytes, numberBytes, numberLimit}
-use Rattle.model.specs.Files.{FileIsExact}
+use Rattle.model.specs.ExactFile.{FileIsExact}
 use Rattle.model.specs.Store.{Store}
 use Rattle.model.specs.Pattern.{Pattern, mostTriplePatterns}
 use Rattle.model.specs.Plan.{Step, Plan, isPlace, mayChoose, placesOf, distinct, isStep, isProper}

@@ -10,7 +10,7 @@ use lib.Dec.{ltb}
 use Rattle.model.specs.Lists.{concatMap, isEmpty}
 use Rattle.model.specs.Reader.{Reply, refused, gives, Reader, after, ask, allRead, wholeFile, repeated}
 use Rattle.model.specs.Numbers.{areBytes}
-use Rattle.model.specs.Files.{FileIsExact}
+use Rattle.model.specs.ExactFile.{FileIsExact}
 use Rattle.model.proofs.Booleans.{and-cases}
 use Rattle.model.proofs.Membership.{all-append}
 use Rattle.model.proofs.Growing.{Grows, longer, passed-inside}
@@ -132,7 +132,7 @@ module _ {A : Type 0} {one : List A → Reader A} {write : A → List ℕ} {good
 
 -- ---- a whole file
 
-whole-gives : {A : Type 0} (n : ℕ) (reader : Reader A) (bytes : List ℕ) {a : A} → wholeFile n reader bytes ≡ gives a → reader bytes ≡ gives (a, [])
+pub whole-gives : {A : Type 0} (n : ℕ) (reader : Reader A) (bytes : List ℕ) {a : A} → wholeFile n reader bytes ≡ gives a → reader bytes ≡ gives (a, [])
 unfolding wholeFile
 whole-gives {A} n reader bytes {a} h = go (reader bytes) h
   where

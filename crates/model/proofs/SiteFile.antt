@@ -11,7 +11,7 @@ use borrow.Author.Tests.{leb-true}
 use Rattle.model.specs.Lists.{all, concatMap, sum, ascends, aboveLast}
 use Rattle.model.specs.Reader.{gives, after, ask, repeated}
 use Rattle.model.specs.Numbers.{areBytes, isTerm, numberBytes}
-use Rattle.model.specs.Files.{FileIsExact}
+use Rattle.model.specs.ExactFile.{FileIsExact}
 use Rattle.model.specs.Site.{Row, rowBefore, Table, Site, mostPredicates, mostRows, rowTotal, predicatesProper, rowsProper, isSite}
 use Rattle.model.specs.SiteFile.{Declaration, declaredTerms, declaredTotal, declaredProper, declaration, row, tables, siteFile, readSite, declarationBytes, rowBytes, declarationOf, siteBytes, declarations}
 use Rattle.model.proofs.Booleans.{and-cases, and-make}

@@ -1,14 +1,18 @@
--- What is promised of a file: of its reader and its writer, and of the test that says what is proper.
-use Prim.Native.Nat.{ℕ}
-use mathlib.Core.Path.{_≡_}
-use mathlib.Core.Bool.{Bool, true}
+-- A file as the check program takes it: whole, or not at all. It is read into a buffer from the front, and a file that is longer is cut there.
+use Prim.Native.Nat.{ℕ, zero, suc}
+use mathlib.Core.Bool.{cond}
 use mathlib.Core.List.{List}
-use Rattle.model.specs.Reader.{Reply, gives}
-use Rattle.model.specs.Numbers.{areBytes}
+use lib.ListN.{length, take}
+use lib.Dec.{eqb}
+use lib.IntN.{ℤ, pos, negsuc}
 
--- what is read is proper; what is written is bytes and is read back; an accepted file is what is written for what was read
-abbrev pub FileIsExact : {A : Type 0} → (List ℕ → Reply A) → (A → List ℕ) → (A → Bool) → Type 0
-FileIsExact {A} read write isProper =
-    ((bytes : List ℕ) (x : A) → read bytes ≡ gives x → isProper x ≡ true)
-    × ((x : A) → isProper x ≡ true → (areBytes (write x) ≡ true) × (read (write x) ≡ gives x))
-    × ((bytes : List ℕ) (x : A) → areBytes bytes ≡ true → read bytes ≡ gives x → bytes ≡ write x)
+-- how many of the bytes read, by what the last read said. 0: the file has ended. Above 0: there may be more, so the bytes are taken only
+-- where they fill the buffer. Below 0: the read failed, and the file counts as absent, so as empty
+unfoldable pub takenSize : ℕ → ℕ → ℤ → ℕ
+takenSize room size (pos zero) = size
+takenSize room size (pos (suc n)) = cond (eqb size room) size 0
+takenSize room size (negsuc n) = 0
+
+-- what is taken of the file
+abbrev pub taken : List ℕ → ℕ → ℤ → List ℕ
+taken buffer size said = take (takenSize (length buffer) size said) buffer

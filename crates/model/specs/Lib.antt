@@ -1,8 +1,8 @@
--- The definitions. Lists, Reader and Files are general; the others follow document 01, in its order.
+-- The definitions. Lists, Reader and ExactFile are general; the others follow document 01, in its order.
 pub mod Lists
 pub mod Reader
 pub mod Numbers
-pub mod Files
+pub mod ExactFile
 pub mod Site
 pub mod SiteFile
 pub mod Tables
@@ -19,4 +19,5 @@ pub mod Answers
 pub mod Chain
 pub mod Text
 pub mod Questions
+pub mod Files
 pub mod Components
