@@ -8,10 +8,12 @@ use borrow.Author.Tests.{lt-ltb}
 use Rattle.model.specs.Numbers.{areBytes}
 use Rattle.model.specs.Calls.{Outcome, outcome, build, plan, run}
 use Rattle.model.specs.Chain.{chainThreshold, chainStoreWords, isRefused, stepBytes, planAndRun, chain, NoMatch}
+use Rattle.model.specs.Text.{RowsFit}
 use Rattle.model.specs.declared.answer.Answer.{Answer}
 use Rattle.model.specs.declared.answer.Answer.the-variants.{None}
 use Rattle.model.specs.declared.answer.Planned.{Planned}
 use Rattle.model.proofs.Booleans.{and-make}
+use Rattle.model.proofs.FittingRows.{chain-fits}
 use Rattle.model.proofs.Demands.Answers.{chain-none-is-whole}
 
 module _ (words check memory : List ℕ) {o : Planned} (planned : o ≡ plan words check) where
@@ -42,3 +44,8 @@ pub none-whole : (file check memory : List ℕ) {after : List ℕ} {answer : Ans
     → outcome answer after ≡ chain file check memory → answer ≡ None → NoMatch file check
 none-whole file check memory below e none =
     chain-none-is-whole file check memory (bytes-below file below) (sym (ap (λ (o : Outcome). o .answer) e) ∙ none)
+
+-- ---- rows
+
+pub answer-fits : (file check memory : List ℕ) {answer : Answer} {after : List ℕ} → outcome answer after ≡ chain file check memory → RowsFit answer memory
+answer-fits file check memory e = rw (ap (λ (o : Outcome). o .answer) e) (chain-fits memory file check)

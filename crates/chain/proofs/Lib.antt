@@ -1,4 +1,3 @@
 -- Laws that the proofs of this crate cite.
 pub mod PlanSize
 pub mod ChainAnswers
-pub mod FittingRows

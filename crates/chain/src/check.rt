@@ -1,8 +1,8 @@
 ghost use mathlib.Core.Path.{_≡_};
 ghost use Rattle.model.specs.Calls.{outcome};
 ghost use Rattle.model.specs.Chain.{isRefused, planAndRun, chain, NoMatch};
+ghost use Rattle.model.specs.Text.{RowsFit};
 ghost use Rattle.model.specs.declared.answer.Answer.the-variants.{None};
-ghost use Rattle.chain.specs.RowsFit.{RowsFit};
 use closing::calls::build;
 use closing::calls::plan;
 use closing::calls::run;

@@ -45,6 +45,7 @@ pub mod Memory
 pub mod Cases
 pub mod AnswerCases
 pub mod ChainRows
+pub mod FittingRows
 pub mod Answers
 pub mod StoreSize
 pub mod FileSizes

@@ -23,6 +23,10 @@ chainThreshold = 1000
 abbrev pub chainStoreWords : ℕ
 chainStoreWords = 8192
 
+-- the words lent for the rows
+abbrev pub chainRowWords : ℕ
+chainRowWords = 4096
+
 unfoldable pub isRefused : Answer → Bool
 isRefused (Rows count width) = false
 isRefused None = false

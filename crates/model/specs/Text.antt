@@ -1,11 +1,14 @@
 -- What the check program prints, as bytes: count and width, then one line for each row, in decimal with one space between; or none, or
 -- the refusal's number.
-use Prim.Native.Nat.{ℕ, zero, suc, _+_, _*_, _/_, _%_}
+use Prim.Native.Nat.{ℕ, zero, suc, _+_, _*_, _/_, _%_, _≤_}
+use mathlib.Core.Path.{_≡_}
 use mathlib.Core.Bool.{cond}
 use mathlib.Core.List.{List, [], _∷_, _++_}
-use lib.ListN.{take, drop}
+use lib.ListN.{length, take, drop, replicate}
 use lib.Dec.{ltb}
 use Rattle.model.specs.Lists.{concatMap, below}
+use Rattle.model.specs.Pattern.{mostVariables}
+use Rattle.model.specs.Chain.{chainRowWords, chain}
 use Rattle.model.specs.declared.answer.Answer.{Answer}
 use Rattle.model.specs.declared.answer.Answer.the-variants.{Rows, None, Built, Refused}
 use Rattle.model.specs.declared.answer.Answer.the-variants.{Plan as PlanAnswer}
@@ -64,3 +67,15 @@ rowLines (Refused n) words = []
 -- all that is printed of an answer and the words lent for its rows
 unfoldable pub printed : Answer → List ℕ → List ℕ
 printed answer words = firstLine answer ++ rowLines answer words
+
+-- the rows that an answer tells of stand in the words; of width 0 there is at most one
+abbrev pub RowsFit : Answer → List ℕ → Type 0
+RowsFit (Rows count width) words = (count * width ≤ length words) × (width ≤ mostVariables) × (width ≡ 0 → count ≤ 1)
+RowsFit None words = Unit {0}
+RowsFit (Built used) words = Unit {0}
+RowsFit PlanAnswer words = Unit {0}
+RowsFit (Refused n) words = Unit {0}
+
+-- all that the check program prints of a site's file and a check's; the words lent for the rows are 0
+unfoldable pub screen : List ℕ → List ℕ → List ℕ
+screen file check = let o = chain file check (replicate chainRowWords 0) in printed (o .answer) (o .memory)

@@ -4,8 +4,7 @@ use native.Mathlib.Omega.{arith}
 use mathlib.Core.Path.{sym, _∙_}
 use lib.ListN.{getD}
 use borrow.Author.Needs.{needs}
-use Rattle.chain.proofs.FittingRows.{answer-fits}
-use Rattle.chain.proofs.ChainAnswers.{build-refused, build-planned, none-whole}
+use Rattle.chain.proofs.ChainAnswers.{build-refused, build-planned, none-whole, answer-fits}
 use Rattle.chain.proofs.check.check_site.Statement.{statement}
 use Rattle.chain.proofs.check.check_site.Tie as tie
 
