@@ -6,6 +6,7 @@ pub mod Memory
 pub mod Solutions
 pub mod Store
 pub mod Files
+pub mod Screen
 pub mod Planner
 pub mod Limits
 pub mod Cases

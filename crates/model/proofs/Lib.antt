@@ -47,6 +47,7 @@ pub mod AnswerCases
 pub mod ChainRows
 pub mod FittingRows
 pub mod Answers
+pub mod Screen
 pub mod StoreSize
 pub mod FileSizes
 pub mod Components
