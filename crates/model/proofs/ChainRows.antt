@@ -3,7 +3,8 @@
 use Prim.Native.Nat.{ℕ, zero, suc, _+_, _-_, _*_, _≤_, _<_}
 use native.Mathlib.Omega.{arith}
 use mathlib.Core.Path.{_≡_, refl, sym, ap, _∙_}
-use mathlib.Core.Bool.{true}
+use mathlib.Core.Logic.{_↔_}
+use mathlib.Core.Bool.{true, false≢true}
 use mathlib.Core.List.{List, [], _∷_, _++_}
 use lib.ListN.{length, take, drop, replicate, length-replicate}
 use lib.Seq.{take-append-add}
@@ -24,7 +25,8 @@ use Rattle.model.specs.Solutions.{solutions}
 use Rattle.model.specs.Calls.{Outcome, outcome, either, build, checked, padded, planNumbers, plan, rowsOutcome}
 use Rattle.model.specs.Chain.{chainThreshold, chainStoreWords, isRefused, unlessRefused, stepBytes, planAndRun, chain}
 use Rattle.model.specs.declared.answer.Answer.{Answer}
-use Rattle.model.specs.declared.answer.Answer.the-variants.{Refused}
+use Rattle.model.specs.declared.answer.Answer.the-variants.{Rows, None, Built, Refused}
+use Rattle.model.specs.declared.answer.Answer.the-variants.{Plan as PlanAnswer}
 use Rattle.model.proofs.Booleans.{and-cases}
 use Rattle.model.proofs.Patterns.{pattern-limit}
 use Rattle.model.proofs.Places.{choice-small}
@@ -92,6 +94,18 @@ module _ (store : Store) (pattern : Pattern) (few : length pattern ≤ mostTripl
 -- ---- the chain
 
 -- what a refusal is, whatever would come next
+-- a refusal, and no other answer
+pub refused-exactly : (answer : Answer) → (isRefused answer ≡ true) ↔ ((n : ℕ) × (answer ≡ Refused n))
+unfolding isRefused
+refused-exactly answer = (from answer, λ r. rw (r .1) refl)
+  where
+    from : (a : Answer) → isRefused a ≡ true → (n : ℕ) × (a ≡ Refused n)
+    from (Rows count v) h = absurd (false≢true h)
+    from None h = absurd (false≢true h)
+    from (Built words) h = absurd (false≢true h)
+    from PlanAnswer h = absurd (false≢true h)
+    from (Refused n) h = (n, refl)
+
 refused-chain : (n : ℕ) (memory : List ℕ) (next : Outcome) (answer : Answer) → answer ≡ Refused n → unlessRefused answer memory next ≡ outcome (Refused n) memory
 unfolding isRefused
 refused-chain n memory next answer e = rw e refl

@@ -1,6 +1,7 @@
 -- Demand 1 and the rule before the demands: what each call may answer, and of what 'none' may be said.
 use Prim.Native.Nat.{ℕ, _*_, _≤_}
 use mathlib.Core.Path.{_≡_, refl}
+use mathlib.Core.Logic.{_↔_}
 use mathlib.Core.Bool.{true}
 use mathlib.Core.List.{List, []}
 use lib.ListN.{length, getD, take, drop, replicate}
@@ -19,12 +20,13 @@ use Rattle.model.specs.Planner.{planned}
 use Rattle.model.specs.Solutions.{IsSolution, solutions}
 use Rattle.model.specs.Calls.{outcome, over, build, withPlan, plan, rowsOutcome, run}
 use Rattle.model.specs.Answers.{BuildAnswer, Accepted, PlanCallAnswer, RunAnswer}
-use Rattle.model.specs.Chain.{chainThreshold, chainStoreWords, chain, NoMatch}
+use Rattle.model.specs.Chain.{chainThreshold, chainStoreWords, isRefused, chain, NoMatch}
+use Rattle.model.specs.declared.answer.Answer.{Answer}
 use Rattle.model.specs.declared.answer.Answer.the-variants.{Rows, None, Built, Refused}
 use Rattle.model.specs.declared.answer.Answer.the-variants.{Plan as PlanAnswer}
 use Rattle.model.proofs.Answers.{build-answers, plan-answers, run-answers, run-none, chain-none}
 use Rattle.model.proofs.Success.{build-succeeds, plan-succeeds, run-succeeds, run-refused, rows-fit, over-later, over-length}
-use Rattle.model.proofs.ChainRows.{chain-solutions, chain-build-refused, chain-plan-refused}
+use Rattle.model.proofs.ChainRows.{refused-exactly, chain-solutions, chain-build-refused, chain-plan-refused}
 
 -- ==== Demand 1. Each call, on all bytes and words whatsoever, answers with what it was called for (tables, a plan, rows or none) or
 -- with a refusal and its number from the list; a refusal leaves all lent memory unaltered.
@@ -140,6 +142,13 @@ Chain-Answers-Solutions =
 
 pub chain-answers-solutions : Chain-Answers-Solutions
 chain-answers-solutions file check memory site pattern whole fits = chain-solutions file check memory site whole fits pattern
+
+-- A refusal ends the chain, and no other answer does.
+abbrev pub Only-Refusals-End : Type 0
+Only-Refusals-End = (answer : Answer) → (isRefused answer ≡ true) ↔ ((n : ℕ) × (answer ≡ Refused n))
+
+pub only-refusals-end : Only-Refusals-End
+only-refusals-end = refused-exactly
 
 -- A refused build is the chain's answer, and the memory is as it was.
 abbrev pub Chain-Keeps-Build-Refusal : Type 0

@@ -4,10 +4,11 @@ use Rattle.model.specs.Numbers.{mostNumberBytes, mostTerm}
 use Rattle.model.specs.Site.{mostPredicates, mostRows}
 use Rattle.model.specs.Tables.{mostThreshold}
 use Rattle.model.specs.Pattern.{mostTriplePatterns, mostVariables}
-use Rattle.model.specs.Chain.{chainThreshold, chainStoreWords}
+use Rattle.model.specs.Chain.{chainThreshold, chainStoreWords, chainRowWords}
 
 -- ==== A number is 1 to 3 bytes, a term is 0 to 65,535; P is 0 to 16, all counts together at most 1,024; T is 0 to 1,000; N is 1 to 8, a
--- variable 0 to 7, so at most 8 of them; the check program has T 1,000 and a store of 8,192 words
+-- variable 0 to 7, so at most 8 of them; the check program has T 1,000, a store of 8,192 words
+-- and 4,096 words for rows
 
 abbrev pub Limits-Are : Type 0
 Limits-Are =
@@ -20,6 +21,7 @@ Limits-Are =
     × (mostVariables ≡ 8)
     × (chainThreshold ≡ 1000)
     × (chainStoreWords ≡ 8192)
+    × (chainRowWords ≡ 4096)
 
 pub limits-are : Limits-Are
-limits-are = (refl, refl, refl, refl, refl, refl, refl, refl, refl)
+limits-are = (refl, refl, refl, refl, refl, refl, refl, refl, refl, refl)
