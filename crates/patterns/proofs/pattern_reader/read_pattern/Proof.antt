@@ -30,12 +30,12 @@ count-is : (k : tie.After-known-told Inv-loop μ-loop) → let n = k .before in
     numberAt (n .before .before .before .before .before .args .s .now) 0 ≡ Value (n .n .given .0 .0) (n .n .given .0 .1 .0)
 count-is k = sym (k .before .before .before .read-number .ensures) ∙ k .before .n .given .1
 
+count-most : (k : tie.Else2 Inv-loop μ-loop) → k .before .before .before .n .given .0 .0 ≤ mostTriplePatterns
+count-most k = ltb-false _ _ (k .if2 .left)
+
 count-wrong : (j : tie.Joined1 Inv-loop μ-loop) → isPatternLength (j .before .before .n .given .0 .0) ≡ false
 count-wrong j =
     ⊎-elim (λ w. rw (lt-leb 1 _ (w .taken)) refl) (λ w. rw (lt-leb _ mostTriplePatterns (ltb-true _ _ (w .1 .taken))) (and-false (leb 1 (j .before .before .n .given .0 .0)))) (j .if1 .came)
-
-count-most : (k : tie.Else2 Inv-loop μ-loop) → k .before .before .before .n .given .0 .0 ≤ mostTriplePatterns
-count-most k = ltb-false _ _ (k .if2 .left)
 
 count-right : (k : tie.Else2 Inv-loop μ-loop) → isPatternLength (k .before .before .before .n .given .0 .0) ≡ true
 count-right k = and-make (le-leb 1 _ (k .before .if1 .left)) (le-leb _ mostTriplePatterns (count-most k))
