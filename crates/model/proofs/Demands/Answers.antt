@@ -73,7 +73,7 @@ Plan-Succeeds =
 pub demand-1-planned : Plan-Succeeds
 demand-1-planned = plan-succeeds
 
--- a store of any T, a pattern that is accepted, and any proper plan given: the rows are those of the solutions
+-- a store of any T, a pattern that is accepted, and any proper plan given: the rows are those of the solutions, which is demand 2
 abbrev pub Run-Succeeds : Type 0
 Run-Succeeds =
     (words bytes steps memory : List ℕ) (t : ℕ) (site : Site) (pattern : Pattern) (given : Plan)

@@ -5,11 +5,11 @@ use mathlib.Core.Path.{_≡_, refl}
 use mathlib.Core.Logic.{_↔_}
 use mathlib.Core.Bool.{true, false}
 use mathlib.Core.Option.{some}
-use mathlib.Core.List.{List, _++_}
+use mathlib.Core.List.{List, [], _∷_, _++_}
 use lib.ListN.{length, getD, take, drop}
 use lib.Dec.{leb}
 use borrow.Author.Tests.{le-leb}
-use Rattle.model.specs.Site.{Site, isSite, rowTotal, noTable, tableAt}
+use Rattle.model.specs.Site.{Row, Site, isSite, rowTotal, noTable, tableAt}
 use Rattle.model.specs.SiteFile.{readSite}
 use Rattle.model.specs.Tables.{vp, semiJoin, kindAt, kindCount, mostThreshold, isStored}
 use Rattle.model.specs.Store.{Reduced, semiJoins, storedRows, storedTotal, tableWords, vpEntryAt, semiJoinEntryAt, semiJoinsBefore, rowsStart, layout, mostStoreWords, Holds, IsStore, Store, storeAt, storeOf}
@@ -51,6 +51,24 @@ Entry-Places =
 
 pub store-entry-places : Entry-Places
 store-entry-places = ((λ i. refl), (λ p i j k. refl), λ p. omega arith)
+
+-- of each row subject and object
+abbrev pub Row-Words : Type 0
+Row-Words = (tableWords [] ≡ []) × ((r : Row) (rows : List Row) → tableWords (r ∷ rows) ≡ r .0 ∷ r .1 ∷ tableWords rows)
+
+pub store-row-words : Row-Words
+store-row-words = (refl, λ r rows. refl)
+
+-- the store holds all rows of a stored table, and none of one that is not stored
+abbrev pub Stored-Rows : Type 0
+Stored-Rows =
+    (t : ℕ) (x : Reduced)
+    → (isStored t (length (x .rows)) (length (x .full)) ≡ true → storedRows t x ≡ x .rows)
+    × (isStored t (length (x .rows)) (length (x .full)) ≡ false → storedRows t x ≡ [])
+
+pub store-stored-rows : Stored-Rows
+unfolding storedRows
+store-stored-rows t x = ((λ e. rw e refl), λ e. rw e refl)
 
 -- the rows follow each other without a gap, two words each: all VP rows, then all stored tables' rows, and no word behind them
 abbrev pub Words-Counted : Type 0
