@@ -90,17 +90,17 @@ module _ (done : List Declaration) where
 
         to : declaration done bytes ≡ refused n → P n
         to h =
-            by-number P 2 bytes _ h predicate-not-whole
-            λ p rest b h. by-ask P 4 (isAbove p) rest _ h (λ f. predicate-not-above b (not-above p .0 f))
-            λ f h. by-number P 2 rest _ h (count-not-whole b (is-above p .0 f))
-            λ c end d h. by-ask P 5 (leb (declaredTotal done + c) mostRows) end _ h (λ g. total-too-large b (is-above p .0 f) d (leb-false (declaredTotal done + c) mostRows g))
+            by-number P _ bytes _ h predicate-not-whole
+            λ p rest b h. by-ask P _ (isAbove p) rest _ h (λ f. predicate-not-above b (not-above p .0 f))
+            λ f h. by-number P _ rest _ h (count-not-whole b (is-above p .0 f))
+            λ c end d h. by-ask P _ (leb (declaredTotal done + c) mostRows) end _ h (λ g. total-too-large b (is-above p .0 f) d (leb-false (declaredTotal done + c) mostRows g))
             λ _ h. gives≢refused h
 
         from : {n : ℕ} → DeclarationRefused done bytes n → declaration done bytes ≡ refused n
-        from (predicate-not-whole broken) = rw (no-number 2 bytes broken) refl
-        from (predicate-not-above {p} b k) = rw (begins 2 b, not-above p .1 k) refl
-        from (count-not-whole {p} {rest} b k broken) = rw (begins 2 b, is-above p .1 k, no-number 2 rest broken) refl
-        from (total-too-large {p} {c} b k d l) = rw (begins 2 b, is-above p .1 k, begins 2 d, lt-leb (declaredTotal done + c) mostRows l) refl
+        from (predicate-not-whole broken) = rw (no-number _ bytes broken) refl
+        from (predicate-not-above {p} b k) = rw (begins _ b, not-above p .1 k) refl
+        from (count-not-whole {p} {rest} b k broken) = rw (begins _ b, is-above p .1 k, no-number _ rest broken) refl
+        from (total-too-large {p} {c} b k d l) = rw (begins _ b, is-above p .1 k, begins _ d, lt-leb (declaredTotal done + c) mostRows l) refl
 
 -- ---- a row
 
@@ -138,16 +138,16 @@ module _ (done : List Row) where
 
         to : row done bytes ≡ refused n → P n
         to h =
-            by-number P 2 bytes _ h subject-not-whole
-            λ s rest a h. by-ask P 6 (isTerm s) rest _ h (λ f. subject-no-term a (leb-false s mostTerm f))
-            λ f h. by-number P 2 rest _ h (object-not-whole a (leb-true s mostTerm f))
-            λ o end b h. by-ask P 6 (isTerm o) end _ h (λ g. object-no-term a (leb-true s mostTerm f) b (leb-false o mostTerm g))
-            λ g h. by-ask P 7 (aboveLast rowBefore done (s, o)) end _ h (λ k. row-not-above a (leb-true s mostTerm f) b (leb-true o mostTerm g) (row-above (s, o) .0 k))
+            by-number P _ bytes _ h subject-not-whole
+            λ s rest a h. by-ask P _ (isTerm s) rest _ h (λ f. subject-no-term a (leb-false s mostTerm f))
+            λ f h. by-number P _ rest _ h (object-not-whole a (leb-true s mostTerm f))
+            λ o end b h. by-ask P _ (isTerm o) end _ h (λ g. object-no-term a (leb-true s mostTerm f) b (leb-false o mostTerm g))
+            λ g h. by-ask P _ (aboveLast rowBefore done (s, o)) end _ h (λ k. row-not-above a (leb-true s mostTerm f) b (leb-true o mostTerm g) (row-above (s, o) .0 k))
             λ _ h. gives≢refused h
 
         from : {n : ℕ} → RowRefused done bytes n → row done bytes ≡ refused n
-        from (subject-not-whole broken) = rw (no-number 2 bytes broken) refl
-        from (subject-no-term {s} a l) = rw (begins 2 a, lt-leb s mostTerm l) refl
-        from (object-not-whole {s} {rest} a l broken) = rw (begins 2 a, le-leb s mostTerm l, no-number 2 rest broken) refl
-        from (object-no-term {s} {o} a l b m) = rw (begins 2 a, le-leb s mostTerm l, begins 2 b, lt-leb o mostTerm m) refl
-        from (row-not-above {s} {o} a l b m k) = rw (begins 2 a, le-leb s mostTerm l, begins 2 b, le-leb o mostTerm m, row-above (s, o) .1 k) refl
+        from (subject-not-whole broken) = rw (no-number _ bytes broken) refl
+        from (subject-no-term {s} a l) = rw (begins _ a, lt-leb s mostTerm l) refl
+        from (object-not-whole {s} {rest} a l broken) = rw (begins _ a, le-leb s mostTerm l, no-number _ rest broken) refl
+        from (object-no-term {s} {o} a l b m) = rw (begins _ a, le-leb s mostTerm l, begins _ b, lt-leb o mostTerm m) refl
+        from (row-not-above {s} {o} a l b m k) = rw (begins _ a, le-leb s mostTerm l, begins _ b, le-leb o mostTerm m, row-above (s, o) .1 k) refl

@@ -74,27 +74,27 @@ declarations-exactly = first-refused declaration DeclarationRefused declaration-
 module _ (bytes : List ℕ) where
   pub site-exactly : (n : ℕ) → (readSite bytes ≡ refused n) ↔ SiteRefused bytes n
   unfolding readSite siteFile after ask
-  site-exactly n = ((λ h. by-file 8 siteFile bytes P h to (λ site b rest e. site-not-ended e)), from)
+  site-exactly n = ((λ h. by-file _ siteFile bytes P h to (λ site b rest e. site-not-ended e)), from)
     where
       P : ℕ → Type 0
       P = SiteRefused bytes
 
       to : siteFile bytes ≡ refused n → P n
       to h =
-          by-number P 2 bytes _ h predicates-not-whole
-          λ p rest a h. by-ask P 3 (leb p mostPredicates) rest _ h (λ f. predicates-too-many a (leb-false p mostPredicates f))
+          by-number P _ bytes _ h predicates-not-whole
+          λ p rest a h. by-ask P _ (leb p mostPredicates) rest _ h (λ f. predicates-too-many a (leb-false p mostPredicates f))
           λ f h. let few = leb-true p mostPredicates f in
           by-first P (repeated declaration p [] rest) _ h (λ e. declaration-refused a few (declarations-exactly p rest n .0 e))
           λ declared end e h. row-refused a few e (tables-exactly declared end n .0 h)
 
       from : {n : ℕ} → P n → readSite bytes ≡ refused n
-      from (predicates-not-whole broken) = reader-refused 8 siteFile bytes (rw (no-number 2 bytes broken) refl)
-      from (predicates-too-many {p} a l) = reader-refused 8 siteFile bytes (rw (begins 2 a, lt-leb p mostPredicates l) refl)
+      from (predicates-not-whole broken) = reader-refused _ siteFile bytes (rw (no-number _ bytes broken) refl)
+      from (predicates-too-many {p} a l) = reader-refused _ siteFile bytes (rw (begins _ a, lt-leb p mostPredicates l) refl)
       from (declaration-refused {p} {n} {rest} a l r) =
-          reader-refused 8 siteFile bytes (rw (begins 2 a, le-leb p mostPredicates l, declarations-exactly p rest n .1 r) refl)
+          reader-refused _ siteFile bytes (rw (begins _ a, le-leb p mostPredicates l, declarations-exactly p rest n .1 r) refl)
       from (row-refused {p} {n} {rest} {end} {declared} a l e r) =
-          reader-refused 8 siteFile bytes (rw (begins 2 a, le-leb p mostPredicates l, e) (tables-exactly declared end n .1 r))
-      from (site-not-ended e) = bytes-left 8 siteFile bytes e
+          reader-refused _ siteFile bytes (rw (begins _ a, le-leb p mostPredicates l, e) (tables-exactly declared end n .1 r))
+      from (site-not-ended e) = bytes-left _ siteFile bytes e
 
 -- ---- the pattern
 
@@ -121,30 +121,30 @@ module _ (site : Site) where
 
   pub pattern-exactly : (bytes : List ℕ) (n : ℕ) → (readPattern site bytes ≡ refused n) ↔ PatternRefused site bytes n
   unfolding readPattern patternFile after ask
-  pattern-exactly bytes n = ((λ h. by-file 17 (patternFile site) bytes P h to (λ pattern b rest e. pattern-not-ended e)), from)
+  pattern-exactly bytes n = ((λ h. by-file _ (patternFile site) bytes P h to (λ pattern b rest e. pattern-not-ended e)), from)
     where
       P : ℕ → Type 0
       P = PatternRefused site bytes
 
       to : patternFile site bytes ≡ refused n → P n
       to h =
-          by-number P 11 bytes _ h length-not-whole
-          λ k rest a h. by-ask P 12 (isPatternLength k) rest _ h (λ f. length-refused a (length-fails k .0 f))
+          by-number P _ bytes _ h length-not-whole
+          λ k rest a h. by-ask P _ (isPatternLength k) rest _ h (λ f. length-refused a (length-fails k .0 f))
           λ f h. let l = length-passes k .0 f in triple-refused a (l .0) (l .1) (triples-exactly k rest n .0 h)
 
       from : {n : ℕ} → P n → readPattern site bytes ≡ refused n
-      from (length-not-whole broken) = reader-refused 17 (patternFile site) bytes (rw (no-number 11 bytes broken) refl)
-      from (length-refused {k} a l) = reader-refused 17 (patternFile site) bytes (rw (begins 11 a, length-fails k .1 l) refl)
+      from (length-not-whole broken) = reader-refused _ (patternFile site) bytes (rw (no-number _ bytes broken) refl)
+      from (length-refused {k} a l) = reader-refused _ (patternFile site) bytes (rw (begins _ a, length-fails k .1 l) refl)
       from (triple-refused {k} {n} {rest} a l m r) =
-          reader-refused 17 (patternFile site) bytes (rw (begins 11 a, length-passes k .1 (l, m)) (triples-exactly k rest n .1 r))
-      from (pattern-not-ended e) = bytes-left 17 (patternFile site) bytes e
+          reader-refused _ (patternFile site) bytes (rw (begins _ a, length-passes k .1 (l, m)) (triples-exactly k rest n .1 r))
+      from (pattern-not-ended e) = bytes-left _ (patternFile site) bytes e
 
 -- ---- the plan
 
 module _ (store : Store) (pattern : Pattern) where
   pub plan-exactly : (bytes : List ℕ) (n : ℕ) → (readPlan store pattern bytes ≡ refused n) ↔ PlanRefused store pattern bytes n
   unfolding readPlan
-  plan-exactly bytes n = ((λ h. by-file 18 steps bytes (PlanRefused store pattern bytes) h (λ e. step-refused (exactly n .0 e)) (λ plan b rest e. plan-not-ended e)), from)
+  plan-exactly bytes n = ((λ h. by-file _ steps bytes (PlanRefused store pattern bytes) h (λ e. step-refused (exactly n .0 e)) (λ plan b rest e. plan-not-ended e)), from)
     where
       steps : Reader Plan
       steps = repeated (step store pattern) (length pattern) []
@@ -153,5 +153,5 @@ module _ (store : Store) (pattern : Pattern) where
       exactly = first-refused (step store pattern) (StepRefused store pattern) (step-exactly store pattern) (length pattern) bytes
 
       from : {n : ℕ} → PlanRefused store pattern bytes n → readPlan store pattern bytes ≡ refused n
-      from (step-refused {n} r) = reader-refused 18 steps bytes (exactly n .1 r)
-      from (plan-not-ended e) = bytes-left 18 steps bytes e
+      from (step-refused {n} r) = reader-refused _ steps bytes (exactly n .1 r)
+      from (plan-not-ended e) = bytes-left _ steps bytes e

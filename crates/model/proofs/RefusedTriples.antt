@@ -54,8 +54,8 @@ module _ (k x : ℕ) where
   position-exactly bytes n = ((λ h. to (positionOf x) (sym (position-number x)) h), from)
     where
       to : (position : Position) → x ≡ positionNumber position → askPosition k position bytes ≡ refused n → PositionRefused k x n
-      to (Term t) e h = by-last (PositionRefused k x) 15 (isTerm t) bytes h (λ f. no-term t e (leb-false t mostTerm f))
-      to (Var v) e h = by-last (PositionRefused k x) 16 (isNext k v) bytes h (λ f. variable (and-fails (ltb v mostVariables) (leb v k) f))
+      to (Term t) e h = by-last (PositionRefused k x) _ (isTerm t) bytes h (λ f. no-term t e (leb-false t mostTerm f))
+      to (Var v) e h = by-last (PositionRefused k x) _ (isNext k v) bytes h (λ f. variable (and-fails (ltb v mostVariables) (leb v k) f))
         where
           variable : (ltb v mostVariables ≡ false) ⊎ ((ltb v mostVariables ≡ true) × (leb v k ≡ false)) → PositionRefused k x 16
           variable (inl f) = out-of-range v e (ltb-false v mostVariables f)
@@ -95,10 +95,10 @@ module _ (site : Site) where
 
         to : (position : Position) → x ≡ positionNumber position → askPredicate site position bytes ≡ refused n → P n
         to (Term t) e h =
-            by-ask P 13 (isTerm t) bytes _ h (λ f. above-terms t e (leb-false t mostTerm f))
-            λ f h. by-last P 14 (isDeclared site t) bytes h
+            by-ask P _ (isTerm t) bytes _ h (λ f. above-terms t e (leb-false t mostTerm f))
+            λ f h. by-last P _ (isDeclared site t) bytes h
             (λ g. not-declared t e (leb-true t mostTerm f) (λ d. not-both (declared-exactly t .1 d) g))
-        to (Var v) e h = by-last P 13 false bytes h (λ _. is-a-variable v e)
+        to (Var v) e h = by-last P _ false bytes h (λ _. is-a-variable v e)
 
         from : {n : ℕ} → PredicateRefused site x n → askPredicate site (positionOf x) bytes ≡ refused n
         from (is-a-variable v e) = rw (position-of (Var v) e) refl
@@ -125,37 +125,37 @@ module _ (site : Site) where
 
         to : triplePattern site done bytes ≡ refused n → P n
         to h =
-            by-number P 11 bytes _ h no-subject
+            by-number P _ bytes _ h no-subject
             λ s rest a h. by-question-of P (position-asks k (positionOf s)) rest _ h (λ f. subject-refused a (position-exactly k s rest n .0 f))
-            λ f h. let subject = position-passes k s .0 f in by-number P 11 rest _ h (no-predicate a subject)
+            λ f h. let subject = position-passes k s .0 f in by-number P _ rest _ h (no-predicate a subject)
             λ p more b h. by-question-of P (predicate-asks site (positionOf p)) more _ h (λ f. predicate-refused a subject b (predicate-exactly p more n .0 f))
-            λ g h. let predicate = predicate-passes p .0 g in by-number P 11 more _ h (no-object a subject b predicate)
+            λ g h. let predicate = predicate-passes p .0 g in by-number P _ more _ h (no-object a subject b predicate)
             λ o end c h. by-question-of P (position-asks (variables k (positionOf s ∷ positionOf p ∷ [])) (positionOf o)) end _ h
             (λ f. object-refused a subject b predicate c
             (position-exactly (variablesWith k (positionOf s)) o end n .0 (rw (object-variables k s p predicate) at f)))
             λ _ h. gives≢refused h
 
         from : {n : ℕ} → P n → triplePattern site done bytes ≡ refused n
-        from (no-subject broken) = rw (no-number 11 bytes broken) refl
-        from (subject-refused {s} {n} {rest} a f) = rw (begins 11 a, position-exactly k s rest n .1 f) refl
-        from (no-predicate {s} {rest} a f broken) = rw (begins 11 a, passes (position-asks k (positionOf s)) rest (position-passes k s .1 f), no-number 11 rest broken) refl
+        from (no-subject broken) = rw (no-number _ bytes broken) refl
+        from (subject-refused {s} {n} {rest} a f) = rw (begins _ a, position-exactly k s rest n .1 f) refl
+        from (no-predicate {s} {rest} a f broken) = rw (begins _ a, passes (position-asks k (positionOf s)) rest (position-passes k s .1 f), no-number _ rest broken) refl
         from (predicate-refused {s} {p} {n} {rest} {more} a f b g) =
-            rw (begins 11 a, passes (position-asks k (positionOf s)) rest (position-passes k s .1 f), begins 11 b, predicate-exactly p more n .1 g) refl
+            rw (begins _ a, passes (position-asks k (positionOf s)) rest (position-passes k s .1 f), begins _ b, predicate-exactly p more n .1 g) refl
         from (no-object {s} {p} {rest} {more} a f b g broken) =
             rw (
-              begins 11 a,
+              begins _ a,
               passes (position-asks k (positionOf s)) rest (position-passes k s .1 f),
-              begins 11 b,
+              begins _ b,
               passes (predicate-asks site (positionOf p)) more (predicate-passes p .1 g),
-              no-number 11 more broken,
+              no-number _ more broken,
             ) refl
         from (object-refused {s} {p} {o} {n} {rest} {more} {end} a f b g c i) =
             rw (
-              begins 11 a,
+              begins _ a,
               passes (position-asks k (positionOf s)) rest (position-passes k s .1 f),
-              begins 11 b,
+              begins _ b,
               passes (predicate-asks site (positionOf p)) more (predicate-passes p .1 g),
-              begins 11 c,
+              begins _ c,
               object-variables k s p g,
               position-exactly (variablesWith k (positionOf s)) o end n .1 i,
             ) refl
@@ -202,14 +202,14 @@ module _ (store : Store) (pattern : Pattern) (done : Plan) (bytes : List ℕ) wh
 
       to : step store pattern done bytes ≡ refused n → P n
       to h =
-          by-number P 18 bytes _ h place-not-whole
-          λ i rest a h. by-ask P 19 (isFree pattern done i) rest _ h (λ f. place-not-free a (not-free pattern done i .0 f))
-          λ f h. by-number P 18 rest _ h (choice-not-whole a (is-free pattern done i .0 f))
-          λ c end b h. by-ask P 20 (mayChoose store pattern i c) end _ h (λ g. may-not-choose a (is-free pattern done i .0 f) b g)
+          by-number P _ bytes _ h place-not-whole
+          λ i rest a h. by-ask P _ (isFree pattern done i) rest _ h (λ f. place-not-free a (not-free pattern done i .0 f))
+          λ f h. by-number P _ rest _ h (choice-not-whole a (is-free pattern done i .0 f))
+          λ c end b h. by-ask P _ (mayChoose store pattern i c) end _ h (λ g. may-not-choose a (is-free pattern done i .0 f) b g)
           λ _ h. gives≢refused h
 
       from : {n : ℕ} → P n → step store pattern done bytes ≡ refused n
-      from (place-not-whole broken) = rw (no-number 18 bytes broken) refl
-      from (place-not-free {i} a f) = rw (begins 18 a, not-free pattern done i .1 f) refl
-      from (choice-not-whole {i} {rest} a f broken) = rw (begins 18 a, is-free pattern done i .1 f, no-number 18 rest broken) refl
-      from (may-not-choose {i} a f b g) = rw (begins 18 a, is-free pattern done i .1 f, begins 18 b, g) refl
+      from (place-not-whole broken) = rw (no-number _ bytes broken) refl
+      from (place-not-free {i} a f) = rw (begins _ a, not-free pattern done i .1 f) refl
+      from (choice-not-whole {i} {rest} a f broken) = rw (begins _ a, is-free pattern done i .1 f, no-number _ rest broken) refl
+      from (may-not-choose {i} a f b g) = rw (begins _ a, is-free pattern done i .1 f, begins _ b, g) refl
