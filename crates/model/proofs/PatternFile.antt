@@ -50,17 +50,17 @@ predicate-fits site (Var v) e = absurd (false≢true e)
 
 pub position-asks : (n : ℕ) (x : Position) → Asks (askPosition n x) (isPosition n x)
 unfolding askPosition
-position-asks n (Term t) = record { as-ask = λ bytes. (15, refl) }
-position-asks n (Var v) = record { as-ask = λ bytes. (16, refl) }
+position-asks n (Term t) = record { as-ask = λ bytes. (_, refl) }
+position-asks n (Var v) = record { as-ask = λ bytes. (_, refl) }
 
 pub predicate-asks : (site : Site) (x : Position) → Asks (askPredicate site x) (isPredicate site x)
 unfolding askPredicate after ask
-predicate-asks site (Term t) = record { as-ask = λ bytes. both bytes (isTerm t) (isDeclared site t) }
+predicate-asks site (Term t) = record { as-ask = λ bytes. both _ _ bytes (isTerm t) (isDeclared site t) }
   where
-    both : (bytes : List ℕ) (a b : Bool) → (n : ℕ) × (after (ask 13 a bytes) (λ _. ask 14 b) ≡ ask n (a && b) bytes)
-    both bytes true b = (14, refl)
-    both bytes false b = (13, refl)
-predicate-asks site (Var v) = record { as-ask = λ bytes. (13, refl) }
+    both : (j k : ℕ) (bytes : List ℕ) (a b : Bool) → (n : ℕ) × (after (ask j a bytes) (λ _. ask k b) ≡ ask n (a && b) bytes)
+    both j k bytes true b = (k, refl)
+    both j k bytes false b = (j, refl)
+predicate-asks site (Var v) = record { as-ask = λ bytes. (_, refl) }
 
 -- ---- one triple pattern
 
@@ -75,11 +75,11 @@ pub triple-reads : (site : Site) → Reads (triplePattern site) triplePatternByt
 unfolding triplePattern after
 triple-reads site = record {
   read = λ done bytes h.
-      let s = number-gives 11 bytes _ h in
+      let s = number-gives _ bytes _ h in
       let a = asked (position-asks (width done) (positionOf (s .0))) _ (s .3) in
-      let p = number-gives 11 (s .1) _ (a .1) in
+      let p = number-gives _ (s .1) _ (a .1) in
       let b = asked (predicate-asks site (positionOf (p .0))) _ (p .3) in
-      let o = number-gives 11 (p .1) _ (b .1) in
+      let o = number-gives _ (p .1) _ (b .1) in
       let c = asked (position-asks (variables (width done) (positionOf (s .0) ∷ positionOf (p .0) ∷ [])) (positionOf (o .0))) _ (o .3) in
       let object = front-then (position-front (o .0) (o .2)) front-none in
       returned (tripleTest site done) triplePatternBytes (c .1) (and-make (a .0) (and-make (b .0) (c .0)))
@@ -92,9 +92,9 @@ triple-reads site = record {
       let m = variables n (s ∷ p ∷ []) in
       let c = and-cases (isPosition n s) (isPredicate site p && isPosition m o) t in
       let d = and-cases (isPredicate site p) (isPosition m o) (c .1) in
-      rw (append-assoc, number-written 11 (positionNumber s) _ (position-fits n s (c .0)), position-back s, passes (position-asks n s) _ (c .0))
-      (rw (append-assoc, number-written 11 (positionNumber p) _ (predicate-fits site p (d .0)), position-back p, passes (predicate-asks site p) _ (d .0))
-      (rw (append-assoc, number-written 11 (positionNumber o) _ (position-fits m o (d .1)), position-back o, passes (position-asks m o) _ (d .1)) refl));
+      rw (append-assoc, number-written _ (positionNumber s) _ (position-fits n s (c .0)), position-back s, passes (position-asks n s) _ (c .0))
+      (rw (append-assoc, number-written _ (positionNumber p) _ (predicate-fits site p (d .0)), position-back p, passes (predicate-asks site p) _ (d .0))
+      (rw (append-assoc, number-written _ (positionNumber o) _ (position-fits m o (d .1)), position-back o, passes (position-asks m o) _ (d .1)) refl));
 }
 
 -- ---- all triple patterns
@@ -118,8 +118,8 @@ pub pattern-read : (site : Site) (bytes : List ℕ) {pattern : Pattern} {rest : 
     → (isAccepted site pattern ≡ true) × Front bytes (patternBytes pattern) rest
 unfolding patternFile isAccepted patternBytes
 pattern-read site bytes {pattern} h =
-    let n = number-gives 11 bytes _ h in
-    let a = ask-gives 12 (isPatternLength (n .0)) _ (n .3) in
+    let n = number-gives _ bytes _ h in
+    let a = ask-gives _ (isPatternLength (n .0)) _ (n .3) in
     let q = repeated-read (triple-reads site) (triples-grow site) (n .0) (n .1) (a .1) in
     let few : isPatternLength (length pattern) ≡ true = rw (q .0) (a .0) in
     (and-make few (q .1), rw (q .0) (front-then (n .2) (q .2)))
@@ -132,7 +132,7 @@ pattern-back site pattern rest e =
     let c = and-cases (isPatternLength (length pattern)) (areTriplePatterns site 0 pattern) e in
     let b = and-cases (leb 1 (length pattern)) (leb (length pattern) mostTriplePatterns) (c .0) in
     let l = leb-true (length pattern) mostTriplePatterns (b .1) in
-    rw (append-assoc, number-written 11 (length pattern) _ (omega arith), c .0)
+    rw (append-assoc, number-written _ (length pattern) _ (omega arith), c .0)
     (repeated-written (triple-reads site) (triples-grow site) pattern rest (c .1))
 
 -- what is written is bytes
@@ -145,7 +145,7 @@ pattern-bytes pattern =
 pub pattern-file : (site : Site) → FileIsExact (readPattern site) patternBytes (isAccepted site)
 unfolding readPattern
 pattern-file site =
-    file-is-exact 17 (record { read = λ _ bytes h. pattern-read site bytes h; written = λ _ pattern rest e. pattern-back site pattern rest e }) pattern-bytes
+    file-is-exact _ (record { read = λ _ bytes h. pattern-read site bytes h; written = λ _ pattern rest e. pattern-back site pattern rest e }) pattern-bytes
 
 pub pattern-accepted : (site : Site) (bytes : List ℕ) (pattern : Pattern) → readPattern site bytes ≡ gives pattern → isAccepted site pattern ≡ true
 pattern-accepted site = pattern-file site .0

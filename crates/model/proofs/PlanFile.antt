@@ -70,20 +70,20 @@ module _ (store : Store) (pattern : Pattern) where
     unfolding step after ask
     step-reads = record {
       read = λ done bytes h.
-          let i = number-gives 18 bytes _ h in
+          let i = number-gives _ bytes _ h in
           let new = not (any (eqb (i .0)) (placesOf done)) in
-          let a = ask-gives 19 (isPlace pattern (i .0) && new) _ (i .3) in
+          let a = ask-gives _ (isPlace pattern (i .0) && new) _ (i .3) in
           let p = and-cases (isPlace pattern (i .0)) new (a .0) in
-          let c = number-gives 18 (i .1) _ (a .1) in
-          let b = ask-gives 20 (mayChoose store pattern (i .0) (c .0)) _ (c .3) in
+          let c = number-gives _ (i .1) _ (a .1) in
+          let b = ask-gives _ (mayChoose store pattern (i .0) (c .0)) _ (c .3) in
           returned (stepTest done) stepBytes (b .1) (and-make (and-make (p .0) (b .0)) (p .1)) (front-then (i .2) (c .2));
       written = λ done x rest t.
           let new = not (any (eqb (x .place)) (placesOf done)) in
           let a = and-cases (isStep store pattern x) new t in
           let b = and-cases (isPlace pattern (x .place)) (mayChoose store pattern (x .place) (x .choice)) (a .0) in
           let l = ltb-true (x .place) (length pattern) (b .0) in
-          let c = number-written 18 (x .choice) rest (choice-fits few (x .place) (x .choice) (b .1)) in
-          rw (append-assoc, number-written 18 (x .place) _ (omega arith), b .0, a .1, c, b .1) refl;
+          let fits = choice-fits few (x .place) (x .choice) (b .1) in
+          rw (append-assoc, number-written _ (x .place) _ (omega arith), b .0, a .1, number-written _ (x .choice) rest fits, b .1) refl;
     }
 
     -- ---- the file
@@ -110,4 +110,4 @@ module _ (store : Store) (pattern : Pattern) where
 
     pub plan-file : FileIsExact (readPlan store pattern) planBytes (isProper store pattern)
     unfolding readPlan
-    plan-file = file-is-exact 18 (record { read = λ _ bytes h. plan-read bytes h; written = λ _ plan rest e. plan-back plan rest e }) plan-is-bytes
+    plan-file = file-is-exact _ (record { read = λ _ bytes h. plan-read bytes h; written = λ _ plan rest e. plan-back plan rest e }) plan-is-bytes

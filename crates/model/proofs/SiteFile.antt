@@ -43,16 +43,16 @@ pub row-reads : Reads row rowBytes rowTest
 unfolding row after ask
 row-reads = record {
   read = λ done bytes h.
-      let s = number-gives 2 bytes _ h in
-      let a = ask-gives 6 (isTerm (s .0)) _ (s .3) in
-      let o = number-gives 2 (s .1) _ (a .1) in
-      let b = ask-gives 6 (isTerm (o .0)) _ (o .3) in
-      let c = ask-gives 7 (aboveLast rowBefore done (s .0, o .0)) _ (b .1) in
+      let s = number-gives _ bytes _ h in
+      let a = ask-gives _ (isTerm (s .0)) _ (s .3) in
+      let o = number-gives _ (s .1) _ (a .1) in
+      let b = ask-gives _ (isTerm (o .0)) _ (o .3) in
+      let c = ask-gives _ (aboveLast rowBefore done (s .0, o .0)) _ (b .1) in
       returned (rowTest done) rowBytes (c .1) (and-make (and-make (a .0) (b .0)) (c .0)) (front-then (s .2) (o .2));
   written = λ done r rest t.
       let c = and-cases (isTerm (r .0) && isTerm (r .1)) (aboveLast rowBefore done r) t in
       let d = and-cases (isTerm (r .0)) (isTerm (r .1)) (c .0) in
-      rw (append-assoc, number-written 2 (r .0) _ (term-fits (r .0) (d .0)), d .0, number-written 2 (r .1) _ (term-fits (r .1) (d .1)), d .1, c .1) refl;
+      rw (append-assoc, number-written _ (r .0) _ (term-fits (r .0) (d .0)), d .0, number-written _ (r .1) _ (term-fits (r .1) (d .1)), d .1, c .1) refl;
 }
 
 -- ---- declarations
@@ -71,17 +71,17 @@ pub declaration-reads : Reads declaration declarationBytes declarationTest
 unfolding declaration after ask
 declaration-reads = record {
   read = λ done bytes h.
-      let p = number-gives 2 bytes _ h in
-      let a = ask-gives 4 (isTerm (p .0) && aboveLast ltb (declaredTerms done) (p .0)) _ (p .3) in
-      let c = number-gives 2 (p .1) _ (a .1) in
-      let b = ask-gives 5 (leb (declaredTotal done + c .0) mostRows) _ (c .3) in
+      let p = number-gives _ bytes _ h in
+      let a = ask-gives _ (isTerm (p .0) && aboveLast ltb (declaredTerms done) (p .0)) _ (p .3) in
+      let c = number-gives _ (p .1) _ (a .1) in
+      let b = ask-gives _ (leb (declaredTotal done + c .0) mostRows) _ (c .3) in
       returned (declarationTest done) declarationBytes (b .1) (and-make (a .0) (b .0)) (front-then (p .2) (c .2));
   written = λ done d rest t.
       let above = aboveLast ltb (declaredTerms done) (d .0) in
       let c = and-cases (isTerm (d .0) && above) (leb (declaredTotal done + d .1) mostRows) t in
       let p = and-cases (isTerm (d .0)) above (c .0) in
       let l = leb-true (declaredTotal done + d .1) mostRows (c .1) in
-      rw (append-assoc, number-written 2 (d .0) _ (term-fits (d .0) (p .0)), c .0, number-written 2 (d .1) _ (omega arith), c .1) refl;
+      rw (append-assoc, number-written _ (d .0) _ (term-fits (d .0) (p .0)), c .0, number-written _ (d .1) _ (omega arith), c .1) refl;
 }
 
 -- ---- tables
@@ -141,8 +141,8 @@ pub site-read : (bytes : List ℕ) {site : Site} {rest : List ℕ} → siteFile 
     → (isSite site ≡ true) × Front bytes (siteBytes site) rest
 unfolding siteFile isSite siteBytes
 site-read bytes {site} h =
-    let p = number-gives 2 bytes _ h in
-    let a = ask-gives 3 (leb (p .0) mostPredicates) _ (p .3) in
+    let p = number-gives _ bytes _ h in
+    let a = ask-gives _ (leb (p .0) mostPredicates) _ (p .3) in
     let d = after-gives (repeated declaration (p .0) [] (p .1)) _ (a .1) in
     let ds = repeated-read declaration-reads declared-grow (p .0) (p .1) (d .2) in
     let t = all-tables-read (d .0) (d .1) (d .3) in
@@ -164,7 +164,7 @@ site-back site rest e =
     let l = leb-true (length site) mostPredicates (a .0) in
     let g = declared-site site ∙ and-make (b .0) (a .1) in
     let read = rw length-map at (repeated-written declaration-reads declared-grow (declarations site) (concatMap tableBytes site ++ rest) g) in
-    rw (append-assoc, number-written 2 (length site) _ (omega arith), a .0, append-assoc, read) (tables-written site [] rest (b .1))
+    rw (append-assoc, number-written _ (length site) _ (omega arith), a .0, append-assoc, read) (tables-written site [] rest (b .1))
 
 -- what is written is bytes
 site-bytes : (site : Site) → areBytes (siteBytes site) ≡ true
@@ -177,4 +177,4 @@ site-bytes site =
 
 pub site-file : FileIsExact readSite siteBytes isSite
 unfolding readSite
-site-file = file-is-exact 8 (record { read = λ _ bytes h. site-read bytes h; written = λ _ site rest e. site-back site rest e }) site-bytes
+site-file = file-is-exact _ (record { read = λ _ bytes h. site-read bytes h; written = λ _ site rest e. site-back site rest e }) site-bytes
