@@ -70,10 +70,10 @@ module _ (t : ℕ) (bytes memory : List ℕ) where
 
       to : build t bytes memory .answer ≡ Refused n → P n
       to h =
-          by-own P memory _ (leb t mostThreshold) _ h (λ f. threshold-too-large (leb-false t mostThreshold f))
+          by-own P memory _ _ _ h (λ f. threshold-too-large (leb-false t mostThreshold f))
           λ f h. let low = leb-true t mostThreshold f in by-no P memory (readSite bytes) _ h (λ m e. site-refused low (site-exactly bytes m .0 e))
           λ site e h. let words = length (layout t site) in
-          by-own P memory _ (leb words (length memory)) _ h (λ f. store-too-small low (site, e, leb-false words (length memory) f))
+          by-own P memory _ _ _ h (λ f. store-too-small low (site, e, leb-false words (length memory) f))
           λ _ h. let z : _≡_ {A = ℕ} 0 1 = cc in absurd (omega arith)
 
       from : {n : ℕ} → P n → build t bytes memory .answer ≡ Refused n
@@ -158,7 +158,7 @@ rows-exactly : (v : ℕ) (rows : List (List ℕ)) (memory : List ℕ) (n : ℕ)
 unfolding rowsOutcome either
 rows-exactly v [] memory n = ((λ h. other-answer refl h), λ r. absurd (omega arith))
 rows-exactly v (r ∷ rs) memory n = (
-  (λ h. by-own (λ n. (n ≡ 21) × (length memory < length (r ∷ rs) * v)) memory _ (leb (length (r ∷ rs) * v) (length memory)) _ h
+  (λ h. by-own (λ n. (n ≡ 21) × (length memory < length (r ∷ rs) * v)) memory _ _ _ h
       (λ f. (refl, leb-false (length (r ∷ rs) * v) (length memory) f)) (λ _ h. let z : _≡_ {A = ℕ} 0 1 = cc in absurd (omega arith))),
   λ (x : (n ≡ 21) × (length memory < length (r ∷ rs) * v)). rw (lt-leb (length (r ∷ rs) * v) (length memory) (x .1), x .0) refl,
 )

@@ -91,9 +91,9 @@ module _ (done : List Declaration) where
         to : declaration done bytes ≡ refused n → P n
         to h =
             by-number P _ bytes _ h predicate-not-whole
-            λ p rest b h. by-ask P _ (isAbove p) rest _ h (λ f. predicate-not-above b (not-above p .0 f))
+            λ p rest b h. by-ask P _ _ rest _ h (λ f. predicate-not-above b (not-above p .0 f))
             λ f h. by-number P _ rest _ h (count-not-whole b (is-above p .0 f))
-            λ c end d h. by-ask P _ (leb (declaredTotal done + c) mostRows) end _ h (λ g. total-too-large b (is-above p .0 f) d (leb-false (declaredTotal done + c) mostRows g))
+            λ c end d h. by-ask P _ _ end _ h (λ g. total-too-large b (is-above p .0 f) d (leb-false (declaredTotal done + c) mostRows g))
             λ _ h. gives≢refused h
 
         from : {n : ℕ} → DeclarationRefused done bytes n → declaration done bytes ≡ refused n
@@ -139,10 +139,10 @@ module _ (done : List Row) where
         to : row done bytes ≡ refused n → P n
         to h =
             by-number P _ bytes _ h subject-not-whole
-            λ s rest a h. by-ask P _ (isTerm s) rest _ h (λ f. subject-no-term a (leb-false s mostTerm f))
+            λ s rest a h. by-ask P _ _ rest _ h (λ f. subject-no-term a (leb-false s mostTerm f))
             λ f h. by-number P _ rest _ h (object-not-whole a (leb-true s mostTerm f))
-            λ o end b h. by-ask P _ (isTerm o) end _ h (λ g. object-no-term a (leb-true s mostTerm f) b (leb-false o mostTerm g))
-            λ g h. by-ask P _ (aboveLast rowBefore done (s, o)) end _ h (λ k. row-not-above a (leb-true s mostTerm f) b (leb-true o mostTerm g) (row-above (s, o) .0 k))
+            λ o end b h. by-ask P _ _ end _ h (λ g. object-no-term a (leb-true s mostTerm f) b (leb-false o mostTerm g))
+            λ g h. by-ask P _ _ end _ h (λ k. row-not-above a (leb-true s mostTerm f) b (leb-true o mostTerm g) (row-above (s, o) .0 k))
             λ _ h. gives≢refused h
 
         from : {n : ℕ} → RowRefused done bytes n → row done bytes ≡ refused n

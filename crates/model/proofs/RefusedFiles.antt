@@ -82,7 +82,7 @@ module _ (bytes : List ℕ) where
       to : siteFile bytes ≡ refused n → P n
       to h =
           by-number P _ bytes _ h predicates-not-whole
-          λ p rest a h. by-ask P _ (leb p mostPredicates) rest _ h (λ f. predicates-too-many a (leb-false p mostPredicates f))
+          λ p rest a h. by-ask P _ _ rest _ h (λ f. predicates-too-many a (leb-false p mostPredicates f))
           λ f h. let few = leb-true p mostPredicates f in
           by-first P (repeated declaration p [] rest) _ h (λ e. declaration-refused a few (declarations-exactly p rest n .0 e))
           λ declared end e h. row-refused a few e (tables-exactly declared end n .0 h)
@@ -129,7 +129,7 @@ module _ (site : Site) where
       to : patternFile site bytes ≡ refused n → P n
       to h =
           by-number P _ bytes _ h length-not-whole
-          λ k rest a h. by-ask P _ (isPatternLength k) rest _ h (λ f. length-refused a (length-fails k .0 f))
+          λ k rest a h. by-ask P _ _ rest _ h (λ f. length-refused a (length-fails k .0 f))
           λ f h. let l = length-passes k .0 f in triple-refused a (l .0) (l .1) (triples-exactly k rest n .0 h)
 
       from : {n : ℕ} → P n → readPattern site bytes ≡ refused n

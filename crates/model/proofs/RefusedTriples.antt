@@ -54,8 +54,8 @@ module _ (k x : ℕ) where
   position-exactly bytes n = ((λ h. to (positionOf x) (sym (position-number x)) h), from)
     where
       to : (position : Position) → x ≡ positionNumber position → askPosition k position bytes ≡ refused n → PositionRefused k x n
-      to (Term t) e h = by-last (PositionRefused k x) _ (isTerm t) bytes h (λ f. no-term t e (leb-false t mostTerm f))
-      to (Var v) e h = by-last (PositionRefused k x) _ (isNext k v) bytes h (λ f. variable (and-fails (ltb v mostVariables) (leb v k) f))
+      to (Term t) e h = by-last (PositionRefused k x) _ _ bytes h (λ f. no-term t e (leb-false t mostTerm f))
+      to (Var v) e h = by-last (PositionRefused k x) _ _ bytes h (λ f. variable (and-fails (ltb v mostVariables) (leb v k) f))
         where
           variable : (ltb v mostVariables ≡ false) ⊎ ((ltb v mostVariables ≡ true) × (leb v k ≡ false)) → PositionRefused k x 16
           variable (inl f) = out-of-range v e (ltb-false v mostVariables f)
@@ -95,8 +95,8 @@ module _ (site : Site) where
 
         to : (position : Position) → x ≡ positionNumber position → askPredicate site position bytes ≡ refused n → P n
         to (Term t) e h =
-            by-ask P _ (isTerm t) bytes _ h (λ f. above-terms t e (leb-false t mostTerm f))
-            λ f h. by-last P _ (isDeclared site t) bytes h
+            by-ask P _ _ bytes _ h (λ f. above-terms t e (leb-false t mostTerm f))
+            λ f h. by-last P _ _ bytes h
             (λ g. not-declared t e (leb-true t mostTerm f) (λ d. not-both (declared-exactly t .1 d) g))
         to (Var v) e h = by-last P _ false bytes h (λ _. is-a-variable v e)
 
@@ -203,9 +203,9 @@ module _ (store : Store) (pattern : Pattern) (done : Plan) (bytes : List ℕ) wh
       to : step store pattern done bytes ≡ refused n → P n
       to h =
           by-number P _ bytes _ h place-not-whole
-          λ i rest a h. by-ask P _ (isFree pattern done i) rest _ h (λ f. place-not-free a (not-free pattern done i .0 f))
+          λ i rest a h. by-ask P _ _ rest _ h (λ f. place-not-free a (not-free pattern done i .0 f))
           λ f h. by-number P _ rest _ h (choice-not-whole a (is-free pattern done i .0 f))
-          λ c end b h. by-ask P _ (mayChoose store pattern i c) end _ h (λ g. may-not-choose a (is-free pattern done i .0 f) b g)
+          λ c end b h. by-ask P _ _ end _ h (λ g. may-not-choose a (is-free pattern done i .0 f) b g)
           λ _ h. gives≢refused h
 
       from : {n : ℕ} → P n → step store pattern done bytes ≡ refused n
