@@ -59,9 +59,15 @@ PredicateNotAbove done p = (65535 < p) ⊎ ((last : ℕ) × IsLast last (declare
 
 pub data DeclarationRefused (done : List Declaration) (bytes : List ℕ) : ℕ → Type 0 where
   predicate-not-whole : NoNumber bytes → DeclarationRefused done bytes 2
-  predicate-not-above : {p : ℕ} {rest : List ℕ} → Begins bytes p rest → PredicateNotAbove done p → DeclarationRefused done bytes 4
-  count-not-whole : {p : ℕ} {rest : List ℕ} → Begins bytes p rest → PredicateIsAbove done p → NoNumber rest → DeclarationRefused done bytes 2
-  total-too-large : {p c : ℕ} {rest end : List ℕ} → Begins bytes p rest → PredicateIsAbove done p → Begins rest c end → 1024 < declaredTotal done + c → DeclarationRefused done bytes 5
+  predicate-not-above : {p : ℕ} {rest : List ℕ}
+      → Begins bytes p rest → PredicateNotAbove done p
+      → DeclarationRefused done bytes 4
+  count-not-whole : {p : ℕ} {rest : List ℕ}
+      → Begins bytes p rest → PredicateIsAbove done p → NoNumber rest
+      → DeclarationRefused done bytes 2
+  total-too-large : {p c : ℕ} {rest end : List ℕ}
+      → Begins bytes p rest → PredicateIsAbove done p → Begins rest c end → 1024 < declaredTotal done + c
+      → DeclarationRefused done bytes 5
 
 -- ---- a row
 
@@ -73,8 +79,12 @@ pub data RowRefused (done : List Row) (bytes : List ℕ) : ℕ → Type 0 where
   subject-not-whole : NoNumber bytes → RowRefused done bytes 2
   subject-no-term : {s : ℕ} {rest : List ℕ} → Begins bytes s rest → 65535 < s → RowRefused done bytes 6
   object-not-whole : {s : ℕ} {rest : List ℕ} → Begins bytes s rest → s ≤ 65535 → NoNumber rest → RowRefused done bytes 2
-  object-no-term : {s o : ℕ} {rest end : List ℕ} → Begins bytes s rest → s ≤ 65535 → Begins rest o end → 65535 < o → RowRefused done bytes 6
-  row-not-above : {s o : ℕ} {rest end : List ℕ} → Begins bytes s rest → s ≤ 65535 → Begins rest o end → o ≤ 65535 → RowNotAbove done (s, o) → RowRefused done bytes 7
+  object-no-term : {s o : ℕ} {rest end : List ℕ}
+      → Begins bytes s rest → s ≤ 65535 → Begins rest o end → 65535 < o
+      → RowRefused done bytes 6
+  row-not-above : {s o : ℕ} {rest end : List ℕ}
+      → Begins bytes s rest → s ≤ 65535 → Begins rest o end → o ≤ 65535 → RowNotAbove done (s, o)
+      → RowRefused done bytes 7
 
 -- ---- the site file
 
@@ -92,8 +102,12 @@ pub record TableRefused (declared : List Declaration) (bytes : List ℕ) (n : �
 pub data SiteRefused (bytes : List ℕ) : ℕ → Type 0 where
   predicates-not-whole : NoNumber bytes → SiteRefused bytes 2
   predicates-too-many : {p : ℕ} {rest : List ℕ} → Begins bytes p rest → 16 < p → SiteRefused bytes 3
-  declaration-refused : {p n : ℕ} {rest : List ℕ} → Begins bytes p rest → p ≤ 16 → FirstRefused declaration DeclarationRefused p rest n → SiteRefused bytes n
-  row-refused : {p n : ℕ} {rest end : List ℕ} {declared : List Declaration} → Begins bytes p rest → p ≤ 16 → repeated declaration p [] rest ≡ gives (declared, end) → TableRefused declared end n → SiteRefused bytes n
+  declaration-refused : {p n : ℕ} {rest : List ℕ}
+      → Begins bytes p rest → p ≤ 16 → FirstRefused declaration DeclarationRefused p rest n
+      → SiteRefused bytes n
+  row-refused : {p n : ℕ} {rest end : List ℕ} {declared : List Declaration}
+      → Begins bytes p rest → p ≤ 16 → repeated declaration p [] rest ≡ gives (declared, end) → TableRefused declared end n
+      → SiteRefused bytes n
   site-not-ended : {site : Site} {b : ℕ} {rest : List ℕ} → siteFile bytes ≡ gives (site, b ∷ rest) → SiteRefused bytes 8
 
 -- ---- a triple pattern
@@ -122,19 +136,34 @@ pub data PredicateRefused (site : Site) (x : ℕ) : ℕ → Type 0 where
 -- a subject is asked before its predicate, and that before the object, which has the subject's variable before it
 pub data TripleRefused (site : Site) (done : Pattern) (bytes : List ℕ) : ℕ → Type 0 where
   no-subject : NoNumber bytes → TripleRefused site done bytes 11
-  subject-refused : {s n : ℕ} {rest : List ℕ} → Begins bytes s rest → PositionRefused (width done) s n → TripleRefused site done bytes n
-  no-predicate : {s : ℕ} {rest : List ℕ} → Begins bytes s rest → PositionPasses (width done) s → NoNumber rest → TripleRefused site done bytes 11
-  predicate-refused : {s p n : ℕ} {rest more : List ℕ} → Begins bytes s rest → PositionPasses (width done) s → Begins rest p more → PredicateRefused site p n → TripleRefused site done bytes n
-  no-object : {s p : ℕ} {rest more : List ℕ} → Begins bytes s rest → PositionPasses (width done) s → Begins rest p more → PredicatePasses site p → NoNumber more → TripleRefused site done bytes 11
-  object-refused : {s p o n : ℕ} {rest more end : List ℕ} → Begins bytes s rest → PositionPasses (width done) s → Begins rest p more → PredicatePasses site p → Begins more o end → PositionRefused (variablesWith (width done) (positionOf s)) o n → TripleRefused site done bytes n
+  subject-refused : {s n : ℕ} {rest : List ℕ}
+      → Begins bytes s rest → PositionRefused (width done) s n
+      → TripleRefused site done bytes n
+  no-predicate : {s : ℕ} {rest : List ℕ}
+      → Begins bytes s rest → PositionPasses (width done) s → NoNumber rest
+      → TripleRefused site done bytes 11
+  predicate-refused : {s p n : ℕ} {rest more : List ℕ}
+      → Begins bytes s rest → PositionPasses (width done) s → Begins rest p more → PredicateRefused site p n
+      → TripleRefused site done bytes n
+  no-object : {s p : ℕ} {rest more : List ℕ}
+      → Begins bytes s rest → PositionPasses (width done) s → Begins rest p more → PredicatePasses site p → NoNumber more
+      → TripleRefused site done bytes 11
+  object-refused : {s p o n : ℕ} {rest more end : List ℕ}
+      → Begins bytes s rest → PositionPasses (width done) s → Begins rest p more → PredicatePasses site p → Begins more o end
+      → PositionRefused (variablesWith (width done) (positionOf s)) o n
+      → TripleRefused site done bytes n
 
 -- ---- the pattern file
 
 pub data PatternRefused (site : Site) (bytes : List ℕ) : ℕ → Type 0 where
   length-not-whole : NoNumber bytes → PatternRefused site bytes 11
   length-refused : {k : ℕ} {rest : List ℕ} → Begins bytes k rest → (k ≡ 0) ⊎ (8 < k) → PatternRefused site bytes 12
-  triple-refused : {k n : ℕ} {rest : List ℕ} → Begins bytes k rest → 1 ≤ k → k ≤ 8 → FirstRefused (triplePattern site) (TripleRefused site) k rest n → PatternRefused site bytes n
-  pattern-not-ended : {pattern : Pattern} {b : ℕ} {rest : List ℕ} → patternFile site bytes ≡ gives (pattern, b ∷ rest) → PatternRefused site bytes 17
+  triple-refused : {k n : ℕ} {rest : List ℕ}
+      → Begins bytes k rest → 1 ≤ k → k ≤ 8 → FirstRefused (triplePattern site) (TripleRefused site) k rest n
+      → PatternRefused site bytes n
+  pattern-not-ended : {pattern : Pattern} {b : ℕ} {rest : List ℕ}
+      → patternFile site bytes ≡ gives (pattern, b ∷ rest)
+      → PatternRefused site bytes 17
 
 -- ---- a step, and the plan file
 
@@ -147,13 +176,23 @@ PlaceNotFree pattern done i = (length pattern ≤ i) ⊎ (i ∈ placesOf done)
 
 pub data StepRefused (store : Store) (pattern : Pattern) (done : Plan) (bytes : List ℕ) : ℕ → Type 0 where
   place-not-whole : NoNumber bytes → StepRefused store pattern done bytes 18
-  place-not-free : {i : ℕ} {rest : List ℕ} → Begins bytes i rest → PlaceNotFree pattern done i → StepRefused store pattern done bytes 19
-  choice-not-whole : {i : ℕ} {rest : List ℕ} → Begins bytes i rest → PlaceIsFree pattern done i → NoNumber rest → StepRefused store pattern done bytes 18
-  may-not-choose : {i c : ℕ} {rest end : List ℕ} → Begins bytes i rest → PlaceIsFree pattern done i → Begins rest c end → mayChoose store pattern i c ≡ false → StepRefused store pattern done bytes 20
+  place-not-free : {i : ℕ} {rest : List ℕ}
+      → Begins bytes i rest → PlaceNotFree pattern done i
+      → StepRefused store pattern done bytes 19
+  choice-not-whole : {i : ℕ} {rest : List ℕ}
+      → Begins bytes i rest → PlaceIsFree pattern done i → NoNumber rest
+      → StepRefused store pattern done bytes 18
+  may-not-choose : {i c : ℕ} {rest end : List ℕ}
+      → Begins bytes i rest → PlaceIsFree pattern done i → Begins rest c end → mayChoose store pattern i c ≡ false
+      → StepRefused store pattern done bytes 20
 
 pub data PlanRefused (store : Store) (pattern : Pattern) (bytes : List ℕ) : ℕ → Type 0 where
-  step-refused : {n : ℕ} → FirstRefused (step store pattern) (StepRefused store pattern) (length pattern) bytes n → PlanRefused store pattern bytes n
-  plan-not-ended : {plan : Plan} {b : ℕ} {rest : List ℕ} → repeated (step store pattern) (length pattern) [] bytes ≡ gives (plan, b ∷ rest) → PlanRefused store pattern bytes 18
+  step-refused : {n : ℕ}
+      → FirstRefused (step store pattern) (StepRefused store pattern) (length pattern) bytes n
+      → PlanRefused store pattern bytes n
+  plan-not-ended : {plan : Plan} {b : ℕ} {rest : List ℕ}
+      → repeated (step store pattern) (length pattern) [] bytes ≡ gives (plan, b ∷ rest)
+      → PlanRefused store pattern bytes 18
 
 -- ---- the calls
 
@@ -186,5 +225,7 @@ pub record RowsExceed (words bytes steps memory : List ℕ) : Type 0 where
 -- then plan, rows memory
 pub data RunRefused (words bytes steps memory : List ℕ) : ℕ → Type 0 where
   check-refused : {n : ℕ} → CheckRefused words bytes n → RunRefused words bytes steps memory n
-  plan-refused : {t n : ℕ} {site : Site} {pattern : Pattern} → Holds words t site → readPattern site bytes ≡ gives pattern → PlanRefused (storeAt t site) pattern steps n → RunRefused words bytes steps memory n
+  plan-refused : {t n : ℕ} {site : Site} {pattern : Pattern}
+      → Holds words t site → readPattern site bytes ≡ gives pattern → PlanRefused (storeAt t site) pattern steps n
+      → RunRefused words bytes steps memory n
   rows-too-many : RowsExceed words bytes steps memory → RunRefused words bytes steps memory 21
