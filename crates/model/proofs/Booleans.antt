@@ -37,3 +37,20 @@ not-both p q = absurd (false≢true (sym q ∙ p))
 pub to-false : (b : Bool) → (b ≡ true → ⊥) → b ≡ false
 to-false true h = absurd (h refl)
 to-false false h = refl
+
+-- ---- tests that fail
+
+pub and-fails : (a b : Bool) → (a && b) ≡ false → (a ≡ false) ⊎ ((a ≡ true) × (b ≡ false))
+and-fails true b h = inr (refl, h)
+and-fails false b h = inl refl
+
+pub left-fails : {a : Bool} (b : Bool) → a ≡ false → (a && b) ≡ false
+left-fails b h = rw h refl
+
+pub right-fails : (a : Bool) {b : Bool} → b ≡ false → (a && b) ≡ false
+right-fails true h = h
+right-fails false h = refl
+
+pub or-fails : (a b : Bool) → (a || b) ≡ false → (a ≡ false) × (b ≡ false)
+or-fails true b h = not-both refl h
+or-fails false b h = (refl, h)

@@ -17,8 +17,9 @@ pub mod SemiJoins
 pub mod Places
 pub mod MayChoose
 pub mod PlanFile
-pub mod RefusedElements
+pub mod RefusedRows
 pub mod RefusedTriples
+pub mod RefusedSteps
 pub mod RefusedFiles
 pub mod Prefixes
 pub mod Join

@@ -7,7 +7,6 @@ use mathlib.Core.Bool.{Bool, true, false, cond}
 use mathlib.Core.Option.{Option, none, some}
 use mathlib.Core.List.{List, [], _∷_}
 use lib.ListN.{length}
-use lib.Dec.{leb}
 use borrow.Author.Tests.{leb-true, leb-false, le-leb, lt-leb}
 use Rattle.model.specs.Reader.{Reply, refused, gives}
 use Rattle.model.specs.Site.{Site}
@@ -89,32 +88,33 @@ module _ (words bytes : List ℕ) where
   patternReply store = either refused (readPattern (store .site) bytes) λ pattern. gives (checkOf store pattern)
 
   -- what question 10 leads to
-  checked-cases : ((IsStore words → ⊥) × (checked words bytes ≡ refused 10))
+  abbrev StoreAsked : Type 0
+  StoreAsked =
+      ((IsStore words → ⊥) × (checked words bytes ≡ refused 10))
       ⊎ ((store : Store) × Holds words (store .threshold) (store .site) × (checked words bytes ≡ patternReply store))
+
+  store-asked : StoreAsked
   unfolding checked either
-  checked-cases = go (storeOf words) refl
+  store-asked = go (storeOf words) refl
     where
-      go : (x : Option Store) → storeOf words ≡ x
-          → ((IsStore words → ⊥) × (checked words bytes ≡ refused 10))
-          ⊎ ((store : Store) × Holds words (store .threshold) (store .site) × (checked words bytes ≡ patternReply store))
+      go : (x : Option Store) → storeOf words ≡ x → StoreAsked
       go none e = inl ((λ s. let f = store-complete words (s .0) (s .1) (s .2) in let z : _≡_ {A = ℕ} 0 1 = cc in omega arith), rw e refl)
       go (some store) e = inr (store, store-sound words store e, rw e refl)
 
   -- an accepted check is a store and a pattern that is read
-  check-gives : (c : Check) → checked words bytes ≡ gives c
-      → Holds words (c .store .threshold) (c .store .site) × (readPattern (c .store .site) bytes ≡ gives (c .pattern))
+  abbrev IsAccepted : Check → Type 0
+  IsAccepted c = Holds words (c .store .threshold) (c .store .site) × (readPattern (c .store .site) bytes ≡ gives (c .pattern))
+
+  check-gives : (c : Check) → checked words bytes ≡ gives c → IsAccepted c
   unfolding either
-  check-gives c h = go checked-cases
+  check-gives c h = go store-asked
     where
       read : (store : Store) → Holds words (store .threshold) (store .site) → (x : Reply Pattern) → readPattern (store .site) bytes ≡ x
-          → either refused x (λ pattern. gives (checkOf store pattern)) ≡ gives c
-          → Holds words (c .store .threshold) (c .store .site) × (readPattern (c .store .site) bytes ≡ gives (c .pattern))
+          → either refused x (λ pattern. gives (checkOf store pattern)) ≡ gives c → IsAccepted c
       read store holds (refused m) e f = refused≢gives f
       read store holds (gives pattern) e f = let same : checkOf store pattern ≡ c = cc in rw (← same) (holds, e)
 
-      go : ((IsStore words → ⊥) × (checked words bytes ≡ refused 10))
-          ⊎ ((store : Store) × Holds words (store .threshold) (store .site) × (checked words bytes ≡ patternReply store))
-          → Holds words (c .store .threshold) (c .store .site) × (readPattern (c .store .site) bytes ≡ gives (c .pattern))
+      go : StoreAsked → IsAccepted c
       go (inl x) = refused≢gives (sym (x .1) ∙ h)
       go (inr x) = read (x .0) (x .1) (readPattern (x .0 .site) bytes) refl (sym (x .2) ∙ h)
 
@@ -125,21 +125,19 @@ module _ (words bytes : List ℕ) where
 
   pub check-exactly : (n : ℕ) → (checked words bytes ≡ refused n) ↔ CheckRefused words bytes n
   unfolding checked either
-  check-exactly n = ((λ h. to checked-cases h), from)
+  check-exactly n = ((λ h. to store-asked h), from)
     where
       at-pattern : (store : Store) → Holds words (store .threshold) (store .site) → (x : Reply Pattern) → readPattern (store .site) bytes ≡ x
           → either refused x (λ pattern. gives (checkOf store pattern)) ≡ refused n → CheckRefused words bytes n
       at-pattern store holds (refused m) e h = pattern-refused holds (pattern-exactly (store .site) bytes n .0 (e ∙ same-number h))
       at-pattern store holds (gives pattern) e h = gives≢refused h
 
-      to : ((IsStore words → ⊥) × (checked words bytes ≡ refused 10))
-          ⊎ ((store : Store) × Holds words (store .threshold) (store .site) × (checked words bytes ≡ patternReply store))
-          → checked words bytes ≡ refused n → CheckRefused words bytes n
+      to : StoreAsked → checked words bytes ≡ refused n → CheckRefused words bytes n
       to (inl x) h = let e = x .1 in let same : n ≡ 10 = cc in rw same (no-store (x .0))
       to (inr x) h = at-pattern (x .0) (x .1) (readPattern (x .0 .site) bytes) refl (sym (x .2) ∙ h)
 
       from : {n : ℕ} → CheckRefused words bytes n → checked words bytes ≡ refused n
-      from (no-store f) = ⊎-elim (λ x. x .1) (λ x. absurd (f (x .0 .threshold, x .0 .site, x .1))) checked-cases
+      from (no-store f) = ⊎-elim (λ x. x .1) (λ x. absurd (f (x .0 .threshold, x .0 .site, x .1))) store-asked
       from (pattern-refused {t} {n} {site} holds r) = rw (store-complete words t site holds, pattern-exactly site bytes n .1 r) refl
 
   pub plan-call-exactly : (n : ℕ) → (plan words bytes .answer ≡ Refused n) ↔ CheckRefused words bytes n

@@ -20,10 +20,11 @@ use Rattle.model.specs.Questions.{FirstRefused, DeclarationRefused, RowR
 use Rattle.model.specs.Questions.SiteRefused.{predicates-not-whole, predicates-too-many, declaration-refused, row-refused, site-not-ended}
 use Rattle.model.specs.Questions.PatternRefused.{length-not-whole, length-refused, triple-refused, pattern-not-ended}
 use Rattle.model.specs.Questions.PlanRefused.{step-refused, plan-not-ended}
-use Rattle.model.proofs.Booleans.{and-cases, and-make}
+use Rattle.model.proofs.Booleans.{and-cases, and-make, and-fails, left-fails, right-fails}
 use Rattle.model.proofs.Questions.{gives≢refused, begins, no-number, by-first, by-number, by-ask, by-file, reader-refused, bytes-left, first-refused}
-use Rattle.model.proofs.RefusedElements.{and-fails, left-fails, right-fails, declaration-exactly, row-exactly}
-use Rattle.model.proofs.RefusedTriples.{triple-exactly, step-exactly}
+use Rattle.model.proofs.RefusedRows.{declaration-exactly, row-exactly}
+use Rattle.model.proofs.RefusedTriples.{triple-exactly}
+use Rattle.model.proofs.RefusedSteps.{step-exactly}
 
 -- ---- the rows of each table
 

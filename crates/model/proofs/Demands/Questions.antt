@@ -18,8 +18,9 @@ use Rattle.model.specs.Calls.{build, plan, run}
 use Rattle.model.specs.Questions.{Begins, GoesOn, FirstRefused, DeclarationRefused, RowRefused, SiteRefused, TripleRefused, PatternRefused, StepRefused, PlanRefused, NoRoom, BuildRefused, CheckRefused, RowsExceed, RunRefused}
 use Rattle.model.specs.declared.answer.Answer.the-variants.{Refused}
 use Rattle.model.proofs.Questions.{first-refused}
-use Rattle.model.proofs.RefusedElements.{declaration-exactly, row-exactly}
-use Rattle.model.proofs.RefusedTriples.{triple-exactly, step-exactly}
+use Rattle.model.proofs.RefusedRows.{declaration-exactly, row-exactly}
+use Rattle.model.proofs.RefusedTriples.{triple-exactly}
+use Rattle.model.proofs.RefusedSteps.{step-exactly}
 use Rattle.model.proofs.RefusedFiles.{site-exactly, pattern-exactly, plan-exactly}
 use Rattle.model.proofs.RefusedCalls.{build-exactly, plan-call-exactly, run-exactly}
 use Rattle.model.proofs.ExactNumbers.{one-exactly, eight-exactly, nine-exactly, plan-ten, run-ten, twelve-exactly, seventeen-exactly, twenty-one-exactly, site-numbers, plan-numbers, run-numbers, run-plan-numbers}

@@ -1,11 +1,11 @@
--- A declaration, a row, a triple pattern and a step: each is refused exactly where a line of specs/Questions holds, with its number.
+-- A declaration and a row: each is refused exactly where a line of specs/Questions holds, with its number.
 use Prim.Native.Nat.{ℕ, _+_, _≤_, _<_}
 use native.Mathlib.Omega.{arith}
 use mathlib.Core.Path.{_≡_, refl, sym, ap, _∙_}
 use mathlib.Core.Logic.{_⊎_, inl, inr, _↔_}
-use mathlib.Core.Bool.{Bool, true, false, _&&_, _||_}
+use mathlib.Core.Bool.{Bool, true, false, _&&_}
 use mathlib.Core.List.{List, [], _∷_}
-use lib.Dec.{eqb, ltb, leb}
+use lib.Dec.{eqb, ltb}
 use borrow.Author.Tests.{ltb-true, ltb-false, lt-ltb, le-ltb, leb-true, leb-false, le-leb, lt-leb, eqb-true, eqb-false, ne-eqb}
 use Rattle.model.specs.Lists.{aboveLast}
 use Rattle.model.specs.Reader.{refused, gives, after, ask}
@@ -15,26 +15,9 @@ use Rattle.model.specs.SiteFile.{Declaration, declaredTerms, declaredTot
 use Rattle.model.specs.Questions.{IsLast, PredicateIsAbove, PredicateNotAbove, DeclarationRefused, RowNotAbove, RowRefused}
 use Rattle.model.specs.Questions.DeclarationRefused.{predicate-not-whole, predicate-not-above, count-not-whole, total-too-large}
 use Rattle.model.specs.Questions.RowRefused.{subject-not-whole, subject-no-term, object-not-whole, object-no-term, row-not-above}
-use Rattle.model.proofs.Booleans.{and-cases, and-make, not-both}
+use Rattle.model.proofs.Booleans.{and-cases, and-make, not-both, and-fails, left-fails, right-fails, or-fails}
 use Rattle.model.proofs.Growing.{above-snoc}
 use Rattle.model.proofs.Questions.{gives≢refused, begins, no-number, by-number, by-ask}
-
--- ---- tests that fail
-
-pub and-fails : (a b : Bool) → (a && b) ≡ false → (a ≡ false) ⊎ ((a ≡ true) × (b ≡ false))
-and-fails true b h = inr (refl, h)
-and-fails false b h = inl refl
-
-pub left-fails : {a : Bool} (b : Bool) → a ≡ false → (a && b) ≡ false
-left-fails b h = rw h refl
-
-pub right-fails : (a : Bool) {b : Bool} → b ≡ false → (a && b) ≡ false
-right-fails true h = h
-right-fails false h = refl
-
-or-fails : (a b : Bool) → (a || b) ≡ false → (a ≡ false) × (b ≡ false)
-or-fails true b h = not-both refl h
-or-fails false b h = (refl, h)
 
 -- ---- the one before
 
