@@ -3,3 +3,5 @@ pub mod Decimals
 pub mod Writing
 pub mod Spaced
 pub mod FirstLines
+pub mod RowLines
+pub mod Printing

@@ -1,22 +1,31 @@
 -- Numbers with one space between, written one by one.
-use Prim.Native.Nat.{ℕ, _+_, _-_, _*_, _≤_, _<_}
+use Prim.Native.Nat.{ℕ, zero, suc, _+_, _-_, _*_, _≤_, _<_}
 use native.Mathlib.Numerals.{add-one}
 use native.Mathlib.Omega.{arith}
 use mathlib.Core.Path.{_≡_}
 use mathlib.Core.List.{List, [], _∷_, _++_, append-assoc}
 use lib.ListN.{length, getD, take, set, length-append, length-take}
 use lib.Seq.{take-suc, sets}
-use Rattle.model.specs.Pattern.{mostVariables}
 use Rattle.model.specs.Text.{decimal, spaced}
 use Rattle.text.proofs.Decimals.{decimal-length}
-use Rattle.text.proofs.Writing.{FrontIs, front-more}
+use Rattle.text.proofs.Writing.{Written, written-more}
 
 -- at most twenty digits each, and a space between
-spaced-length : (xs : List ℕ) → length (spaced xs) ≤ 21 * length xs - 1
+pub spaced-length : (xs : List ℕ) → length (spaced xs) ≤ 21 * length xs - 1
 unfolding spaced
 spaced-length [] = omega arith
 spaced-length (x ∷ []) = omega (arith, decimal-length x)
 spaced-length (x ∷ y ∷ ys) = rw length-append (omega (arith, decimal-length x, spaced-length (y ∷ ys)))
+
+-- the first numbers take no more bytes than all
+pub spaced-front : (v : ℕ) (l : List ℕ) → length (spaced (take v l)) ≤ length (spaced l)
+unfolding spaced
+spaced-front zero l = omega arith
+spaced-front (suc v) [] = omega arith
+spaced-front (suc zero) (x ∷ []) = omega arith
+spaced-front (suc zero) (x ∷ y ∷ ys) = rw length-append (omega arith)
+spaced-front (suc (suc v)) (x ∷ []) = omega arith
+spaced-front (suc (suc v)) (x ∷ y ∷ ys) = let h = spaced-front (suc v) (y ∷ ys) in simp length-append (omega arith)
 
 -- one number more, behind others
 spaced-more : (xs : List ℕ) (y : ℕ) → 0 < length xs → spaced (xs ++ y ∷ []) ≡ spaced xs ++ 32 ∷ [] ++ decimal y
@@ -25,21 +34,17 @@ spaced-more [] y h = absurd (omega arith)
 spaced-more (x ∷ []) y h = rw append-assoc
 spaced-more (x ∷ x′ ∷ xs) y h = rw (spaced-more (x′ ∷ xs) y (omega arith)) (simp append-assoc)
 
-module _ {before out : List ℕ} {next : ℕ} (v : ℕ) (l : List ℕ) (h : v < length l) (x : FrontIs before (spaced (take v l)) out next) where
+module _ {before out : List ℕ} {at next : ℕ} (v : ℕ) (l : List ℕ) (h : v < length l) (x : Written before at (spaced (take v l)) out next) where
   -- the first number
-  pub first-number : v ≤ 0 → FrontIs before (spaced (take (v + 1) l)) (sets out next (decimal (getD l v 0))) (next + length (decimal (getD l v 0)))
+  pub first-number : v ≤ 0 → Written before at (spaced (take (v + 1) l)) (sets out next (decimal (getD l v 0))) (next + length (decimal (getD l v 0)))
   unfolding spaced
   first-number z =
       let none : v ≡ 0 = omega arith in
-      rw (add-one v, take-suc l v 0, none) (front-more (rw none at x) (decimal (getD l 0 0)))
+      rw (add-one v, take-suc l v 0, none) (written-more (rw none at x) (decimal (getD l 0 0)))
 
   -- a number behind others
   pub later-number : 0 < v
-      → FrontIs before (spaced (take (v + 1) l)) (sets (set out next 32) (next + 1) (decimal (getD l v 0))) (next + 1 + length (decimal (getD l v 0)))
+      → Written before at (spaced (take (v + 1) l)) (sets (set out next 32) (next + 1) (decimal (getD l v 0))) (next + 1 + length (decimal (getD l v 0)))
   later-number z =
       rw (add-one v, take-suc l v 0, spaced-more (take v l) (getD l v 0) (omega (arith, length-take v l)))
-      (front-more (front-more x (32 ∷ [])) (decimal (getD l v 0)))
-
--- behind the numbers of a row there is room for one byte more
-pub spaced-fits : {before out : List ℕ} {next : ℕ} (v : ℕ) (l : List ℕ) → FrontIs before (spaced (take v l)) out next → v ≤ mostVariables → next < 168
-spaced-fits v l x h = omega (arith, x .place, spaced-length (take v l), length-take v l)
+      (written-more (written-more x (32 ∷ [])) (decimal (getD l v 0)))

@@ -1,6 +1,6 @@
--- A text written at the front of some bytes.
+-- A text written at a place of some bytes.
 use Prim.Native.Nat.{ℕ, _+_, _≤_}
-use native.Mathlib.Nat.{zero-add}
+use native.Mathlib.Nat.{add-zero, zero-add}
 use native.Mathlib.Omega.{arith}
 use mathlib.Core.Path.{_≡_, refl, sym}
 use mathlib.Core.List.{List, [], _++_}
@@ -8,35 +8,34 @@ use lib.ListN.{length, take, length-append}
 use lib.Seq.{take-append-seam, sets, sets-eq, length-sets}
 use Rattle.model.proofs.Setting.{sets-append}
 
--- the front is the text
-pub front-written : (l xs : List ℕ) → length xs ≤ length l → take (length xs) (sets l 0 xs) ≡ xs
-front-written l xs h = rw (sets-eq xs l 0 (omega arith)) (take-append-seam xs _)
+-- the text is written at a place of `before`, and `next` is the place after it
+pub record Written (before : List ℕ) (at : ℕ) (text out : List ℕ) (next : ℕ) : Type 0 where
+  pub place : next ≡ at + length text
+  pub bytes : out ≡ sets before at text
 
--- the text is written at the front of `before`, and `next` is the place after it
-pub record FrontIs (before text out : List ℕ) (next : ℕ) : Type 0 where
-  pub place : next ≡ length text
-  pub bytes : out ≡ sets before 0 text
-
-module _ {before text out : List ℕ} {next : ℕ} (x : FrontIs before text out next) where
-  pub front-length : length out ≡ length before
-  front-length = rw (x .bytes) (length-sets before 0 text)
+module _ {before text out : List ℕ} {at next : ℕ} (x : Written before at text out next) where
+  pub written-length : length out ≡ length before
+  written-length = rw (x .bytes) (length-sets before at text)
 
   -- more text behind it
-  pub front-more : (more : List ℕ) → FrontIs before (text ++ more) (sets out next more) (next + length more)
-  front-more more = record {
-    place = rw (x .place) (sym (length-append text more));
-    bytes = rw (x .bytes, x .place, sets-append, zero-add);
+  pub written-more : (more : List ℕ) → Written before at (text ++ more) (sets out next more) (next + length more)
+  written-more more = record {
+    place = let l = length-append text more in omega (arith, x .place);
+    bytes = rw (x .bytes, x .place, sets-append) refl;
   }
 
   -- by what a call that puts it says
-  pub front-put : {after : List ℕ} {end : ℕ} (more : List ℕ) → (end ≡ next + length more) × (after ≡ sets out next more)
-      → FrontIs before (text ++ more) after end
-  front-put more h = rw (h .0, h .1) (front-more more)
-
-  -- what is taken from the front is the text
-  pub front-taken : next ≤ length out → (next ≡ length text) × (take next out ≡ text)
-  front-taken room = (x .place, rw (x .place, x .bytes) (front-written before text (omega (arith, x .place, front-length))))
+  pub written-put : {after : List ℕ} {end : ℕ} (more : List ℕ) → (end ≡ next + length more) × (after ≡ sets out next more)
+      → Written before at (text ++ more) after end
+  written-put more h = rw (h .0, h .1) (written-more more)
 
 -- nothing is written yet
-pub front-none : (before : List ℕ) → FrontIs before [] before 0
-front-none before = record { place = refl; bytes = refl }
+pub written-none : (before : List ℕ) (at : ℕ) → Written before at [] before at
+written-none before at = record { place = sym (add-zero at); bytes = refl }
+
+-- what is taken from the front is the text that is written there
+pub front-taken : {before text out : List ℕ} {next : ℕ} → Written before 0 text out next → length text ≤ length before
+    → (next ≡ length text) × (take next out ≡ text)
+front-taken {before} {text} {out} {next} x room =
+    let size : next ≡ length text = omega (arith, x .place) in
+    (size, rw (size, x .bytes, sets-eq text before 0 (omega arith)) (take-append-seam text _))

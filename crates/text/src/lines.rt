@@ -2,13 +2,9 @@ ghost use mathlib.Core.Path.{_≡_};
 ghost use Prim.Native.Nat.{_≤_, _+_};
 ghost use lib.ListN.{length, take, drop};
 ghost use lib.Seq.{sets};
-ghost use Rattle.model.specs.Pattern.{mostVariables};
 ghost use Rattle.model.specs.Text.{firstLine, rowLine};
 use crate::digits::put_decimal;
 use model::answer::Answer;
-
-// Room for any line: eight numbers, a space or a newline behind each.
-pub const LINE_BYTES: usize = 168;
 
 // Puts some bytes at a place, and gives the place after them.
 pub fn put_bytes(text: &[u8], out: &mut [u8], at: usize) -> usize
@@ -22,15 +18,16 @@ pub fn put_bytes(text: &[u8], out: &mut [u8], at: usize) -> usize
     at + text.len()
 }
 
-// Puts the first line of an answer at the front, and gives its length.
-pub fn put_first_line(answer: Answer, out: &mut [u8]) -> usize
-    requires { ⌜ 168 ≤ length (now out) ⌝ }
-    ensures { λ r. ⌜ (r ≡ length (firstLine answer)) × (take r (now (out .exit)) ≡ firstLine answer) ⌝ }
+// Puts the first line of an answer at a place, and gives the place after it.
+pub fn put_first_line(answer: Answer, out: &mut [u8], at: usize) -> usize
+    requires { ⌜ at + length (firstLine answer) ≤ length (now out) ⌝ }
+    ensures { λ r. ⌜ r ≡ at + length (firstLine answer) ⌝ }
+    ensures { λ _. ⌜ now (out .exit) ≡ sets (now (out .entry)) at (firstLine answer) ⌝ }
 {
     match answer {
         Answer::Rows(count, width) => {
             let rows = [114u8, 111, 119, 115, 32];
-            let with_rows = put_bytes(&rows, out, 0);
+            let with_rows = put_bytes(&rows, out, at);
             let with_count = put_decimal(count, out, with_rows);
             let wide = [32u8, 119, 105, 100, 116, 104, 32];
             let with_wide = put_bytes(&wide, out, with_count);
@@ -40,13 +37,13 @@ pub fn put_first_line(answer: Answer, out: &mut [u8]) -> usize
         }
         Answer::None => {
             let none = [110u8, 111, 110, 101, 10];
-            put_bytes(&none, out, 0)
+            put_bytes(&none, out, at)
         }
-        Answer::Built(_) => 0,
-        Answer::Plan => 0,
+        Answer::Built(_) => at,
+        Answer::Plan => at,
         Answer::Refused(number) => {
             let refused = [114u8, 101, 102, 117, 115, 101, 100, 32];
-            let with_refused = put_bytes(&refused, out, 0);
+            let with_refused = put_bytes(&refused, out, at);
             let end = put_decimal(number as u64, out, with_refused);
             out[end] = 10;
             end + 1
@@ -54,18 +51,19 @@ pub fn put_first_line(answer: Answer, out: &mut [u8]) -> usize
     }
 }
 
-// Puts the line of the row at a place of some words at the front, and gives its length.
-pub fn put_row_line(words: &[u32], at: usize, width: usize, out: &mut [u8]) -> usize
-    requires { ⌜ (at + width ≤ length (now words)) × (width ≤ mostVariables) × (168 ≤ length (now out)) ⌝ }
-    ensures { λ r. ⌜ (r ≡ length (rowLine (take width (drop at (now (words .entry)))))) × (take r (now (out .exit)) ≡ rowLine (take width (drop at (now (words .entry))))) ⌝ }
+// Puts the line of the row at place `from` of some words at a place, and gives the place after it.
+pub fn put_row_line(words: &[u32], from: usize, width: usize, out: &mut [u8], at: usize) -> usize
+    requires { ⌜ (from + width ≤ length (now words)) × (at + length (rowLine (take width (drop from (now words)))) ≤ length (now out)) ⌝ }
+    ensures { λ r. ⌜ r ≡ at + length (rowLine (take width (drop from (now (words .entry))))) ⌝ }
+    ensures { λ _. ⌜ now (out .exit) ≡ sets (now (out .entry)) at (rowLine (take width (drop from (now (words .entry))))) ⌝ }
 {
-    let mut next: usize = 0;
+    let mut next = at;
     for v in 0..width {
         if 0 < v {
             out[next] = 32;
             next += 1;
         }
-        next = put_decimal(words[at + v] as u64, out, next);
+        next = put_decimal(words[from + v] as u64, out, next);
     }
     out[next] = 10;
     next + 1

@@ -1,10 +1,11 @@
--- The texts of the answer's line are put one behind the other, from the front on.
+-- The texts of the answer's line are put one behind the other.
 use native.Mathlib.Omega.{arith}
-use mathlib.Core.Path.{refl}
+use native.Mathlib.Nat.{add-zero}
+use mathlib.Core.Path.{refl, sym}
 use lib.ListN.{length-set}
 use borrow.Author.Needs.{needs}
 use Rattle.model.specs.Text.{firstLine}
-use Rattle.text.proofs.FirstLines.{decimal-fits, decimal-ends, rows-put, none-put, refused-put}
+use Rattle.text.proofs.FirstLines.{rows-length, refused-length, rows-put, refused-put}
 use Rattle.text.proofs.lines.put_first_line.Statement.{statement}
 use Rattle.text.proofs.lines.put_first_line.Tie as tie
 
@@ -15,29 +16,25 @@ slice-aggregate-put-bytes : tie.Need-slice-aggregate-put-bytes
 slice-aggregate-put-bytes c = search needs
 
 put-bytes-requires : tie.Need-put-bytes-requires
-put-bytes-requires c κs = search needs
+put-bytes-requires c κs = omega (arith, rows-length (c .before .before .before .answer .given .1))
 
 put-decimal-requires : tie.Need-put-decimal-requires
-put-decimal-requires c κs = decimal-fits _ _ _ (omega arith)
+put-decimal-requires c κs = omega (arith, rows-length (c .before .before .before .before .before .before .before .answer .given .1))
 
 slice-aggregate-put-bytes-2 : tie.Need-slice-aggregate-put-bytes-2
 slice-aggregate-put-bytes-2 c = search needs
 
 put-bytes-requires-2 : tie.Need-put-bytes-requires-2
-put-bytes-requires-2 c κs = omega (arith, decimal-ends _ _ (c .before .before .before .before .put-decimal .ensures .0))
+put-bytes-requires-2 c κs = omega (arith, rows-length (c .before .before .before .before .before .before .before .before .before .before .before .before .answer .given .1))
 
 cast-put-decimal : tie.Need-cast-put-decimal
 cast-put-decimal c = search needs
 
 put-decimal-requires-2 : tie.Need-put-decimal-requires-2
-put-decimal-requires-2 c κs =
-    let counted = decimal-ends _ _ (c .before .before .before .before .before .before .before .before .put-decimal .ensures .0) in
-    decimal-fits _ _ _ (omega arith)
+put-decimal-requires-2 c κs = omega (arith, rows-length (c .before .before .before .before .before .before .before .before .before .before .before .before .before .before .before .before .answer .given .1))
 
 slice-write-out : tie.Need-slice-write-out
-slice-write-out c =
-    let counted = decimal-ends _ _ (c .before .before .before .before .before .before .before .before .before .before .before .put-decimal .ensures .0) in
-    omega (arith, decimal-ends _ _ (c .before .before .put-decimal2 .ensures .0))
+slice-write-out c = omega (arith, rows-length (c .before .before .before .before .before .before .before .before .before .before .before .before .before .before .before .before .before .before .before .answer .given .1))
 
 add-result : tie.Need-add-result
 add-result c = let room = slice-write-out c in omega arith
@@ -49,7 +46,8 @@ slice-aggregate-put-bytes-3 : tie.Need-slice-aggregate-put-bytes-3
 slice-aggregate-put-bytes-3 c = search needs
 
 put-bytes-requires-3 : tie.Need-put-bytes-requires-3
-put-bytes-requires-3 c κs = search needs
+unfolding firstLine
+put-bytes-requires-3 c κs = let room = rw (c .before .before .enum-told .given .1) at (c .before .before .before .before .before .pre) in omega arith
 
 enum-told-2 : tie.Need-enum-told-2
 enum-told-2 c = search needs
@@ -64,16 +62,16 @@ slice-aggregate-put-bytes-4 : tie.Need-slice-aggregate-put-bytes-4
 slice-aggregate-put-bytes-4 c = search needs
 
 put-bytes-requires-4 : tie.Need-put-bytes-requires-4
-put-bytes-requires-4 c κs = search needs
+put-bytes-requires-4 c κs = omega (arith, refused-length (c .before .before .before .answer2 .given .1))
 
 cast-put-decimal-2 : tie.Need-cast-put-decimal-2
 cast-put-decimal-2 c = search needs
 
 put-decimal-requires-3 : tie.Need-put-decimal-requires-3
-put-decimal-requires-3 c κs = decimal-fits _ _ _ (omega arith)
+put-decimal-requires-3 c κs = omega (arith, refused-length (c .before .before .before .before .before .before .before .answer2 .given .1))
 
 slice-write-out-2 : tie.Need-slice-write-out-2
-slice-write-out-2 c = omega (arith, decimal-ends _ _ (c .before .before .put-decimal3 .ensures .0))
+slice-write-out-2 c = omega (arith, refused-length (c .before .before .before .before .before .before .before .before .before .before .answer2 .given .1))
 
 add-result-2 : tie.Need-add-result-2
 add-result-2 c = let room = slice-write-out-2 c in omega arith
@@ -88,8 +86,8 @@ returns c =
     let named = counted .before .before .before .before in
     let start = named .before .before .before .before in
     rw (start .answer .given .1)
-    (rows-put (start .before .before .before .args .out .now) _ _ (named .put-bytes .ensures) (counted .put-decimal .ensures) (wide .put-bytes2 .ensures)
-    (c .before .before .put-decimal2 .ensures) (slice-write-out c))
+    (rows-put (start .before .before .before .args .out .now) _ _ _ (named .put-bytes .ensures) (counted .put-decimal .ensures) (wide .put-bytes2 .ensures)
+    (c .before .before .put-decimal2 .ensures))
 
 same-length-2 : tie.Need-same-length-2
 same-length-2 c = search needs
@@ -98,15 +96,15 @@ returns-2 : tie.Need-returns-2
 unfolding firstLine
 returns-2 c =
     let start = c .before .before .before .before .before in
-    rw (start .enum-told .given .1) (none-put (start .before .before .before .args .out .now) (c .before .before .put-bytes3 .ensures) (omega arith))
+    rw (start .enum-told .given .1) (c .before .before .put-bytes3 .ensures)
 
 returns-3 : tie.Need-returns-3
 unfolding firstLine
-returns-3 c = rw (c .enum-told2 .given .1) (refl, refl)
+returns-3 c = rw (c .enum-told2 .given .1) (sym (add-zero _), refl)
 
 returns-4 : tie.Need-returns-4
 unfolding firstLine
-returns-4 c = rw (c .enum-told3 .given .1) (refl, refl)
+returns-4 c = rw (c .enum-told3 .given .1) (sym (add-zero _), refl)
 
 same-length-3 : tie.Need-same-length-3
 same-length-3 c = simp length-set (omega arith)
@@ -116,7 +114,7 @@ returns-5 c =
     let named = c .before .before .before .before .before .before in
     let start = named .before .before .before .before in
     rw (start .answer2 .given .1)
-    (refused-put (start .before .before .before .args .out .now) _ (named .put-bytes4 .ensures) (c .before .before .put-decimal3 .ensures) (slice-write-out-2 c))
+    (refused-put (start .before .before .before .args .out .now) _ _ (named .put-bytes4 .ensures) (c .before .before .put-decimal3 .ensures))
 
 pub put-first-line-spec : {M : Type 1} → statement M
 put-first-line-spec =
