@@ -7,6 +7,7 @@ pub mod Sorting
 pub mod Growing
 pub mod Readers
 pub mod Numbers
+pub mod NumberForm
 pub mod Questions
 pub mod SiteFile
 pub mod PatternFile

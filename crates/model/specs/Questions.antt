@@ -31,6 +31,13 @@ pub record Begins (bytes : List ℕ) (n : ℕ) (rest : List ℕ) : Type 0 where
   pub front : numberIn bytes ≡ some (n, size)
   pub behind : drop size bytes ≡ rest
 
+-- what that means: 1 to 3 bytes, low group first, the top bit set in all but the last, and a last byte of 00 only alone
+pub data NumberForm (bytes : List ℕ) (n : ℕ) (rest : List ℕ) : Type 0 where
+  one-byte : n < 128 → bytes ≡ n ∷ rest → NumberForm bytes n rest
+  two-bytes : (a b : ℕ) → 1 ≤ b → b < 128 → n ≡ a + 128 * b → bytes ≡ (128 + a) ∷ b ∷ rest → NumberForm bytes n rest
+  three-bytes : (a b c : ℕ) → 1 ≤ c → c < 128 → n ≡ a + 128 * (b + 128 * c) → bytes ≡ (128 + a) ∷ (128 + b) ∷ c ∷ rest
+      → NumberForm bytes n rest
+
 module _ {A : Type 0} where
   -- x is the one before: the last of those done
   abbrev pub IsLast : A → List A → Type 0

@@ -15,8 +15,9 @@ use Rattle.model.specs.Plan.{Plan}
 use Rattle.model.specs.PlanFile.{step, readPlan}
 use Rattle.model.specs.Answers.{Between}
 use Rattle.model.specs.Calls.{build, plan, run}
-use Rattle.model.specs.Questions.{Begins, GoesOn, FirstRefused, DeclarationRefused, RowRefused, SiteRefused, TripleRefused, PatternRefused, StepRefused, PlanRefused, NoRoom, BuildRefused, CheckRefused, RowsExceed, RunRefused}
+use Rattle.model.specs.Questions.{NoNumber, Begins, NumberForm, GoesOn, FirstRefused, DeclarationRefused, RowRefused, SiteRefused, TripleRefused, PatternRefused, StepRefused, PlanRefused, NoRoom, BuildRefused, CheckRefused, RowsExceed, RunRefused}
 use Rattle.model.specs.declared.answer.Answer.the-variants.{Refused}
+use Rattle.model.proofs.NumberForm.{number-form, no-number-form}
 use Rattle.model.proofs.Questions.{first-refused}
 use Rattle.model.proofs.RefusedRows.{declaration-exactly, row-exactly}
 use Rattle.model.proofs.RefusedTriples.{triple-exactly}
@@ -101,6 +102,18 @@ Plan-File-Refusals = (store : Store) (pattern : Pattern) (bytes : List ℕ) (n :
 
 pub plan-file-refusals : Plan-File-Refusals
 plan-file-refusals = plan-exactly
+
+-- ==== A number is 1 to 3 bytes, seven bits each, low group first; the top bit is set in all bytes but its last. A last byte of 00 stands
+-- only alone. Where no bytes at the front have that form, there is no number.
+
+abbrev pub Numbers-Are-Exact : Type 0
+Numbers-Are-Exact =
+    (bytes : List ℕ)
+    → ((n : ℕ) (rest : List ℕ) → Begins bytes n rest ↔ NumberForm bytes n rest)
+    × (NoNumber bytes ↔ ((n : ℕ) (rest : List ℕ) → NumberForm bytes n rest → ⊥))
+
+pub numbers-are-exact : Numbers-Are-Exact
+numbers-are-exact bytes = (number-form bytes, no-number-form bytes)
 
 -- ==== A number's own form is questioned before its field: what a refusal of one element means, by the numbers read and the elements before it
 
