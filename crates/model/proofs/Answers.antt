@@ -3,7 +3,7 @@ use Prim.Native.Nat.{ℕ, _*_}
 use native.Mathlib.Omega.{arith}
 use mathlib.Core.Path.{_≡_, refl, sym, ap, _∙_, subst}
 use mathlib.Core.Logic.{inl, inr}
-use mathlib.Core.Bool.{Bool, true, false, cond}
+use mathlib.Core.Bool.{true}
 use mathlib.Core.Option.{Option, Option·getD}
 use mathlib.Core.List.{List, [], _∷_, List·Memᴰ·not-nil}
 use lib.ListN.{length, replicate}
@@ -17,9 +17,8 @@ use Rattle.model.specs.SiteFile.{readSite}
 use Rattle.model.specs.Tables.{at, mostThreshold}
 use Rattle.model.specs.Store.{layout, Holds, Store, storeAt}
 use Rattle.model.specs.Pattern.{width}
-use Rattle.model.specs.PlanFile.{readPlan}
 use Rattle.model.specs.Solutions.{IsSolution, solutions}
-use Rattle.model.specs.Calls.{Outcome, outcome, over, unaltered, build, plan, noneByCounts, rowsOutcome, run}
+use Rattle.model.specs.Calls.{Outcome, over, unaltered, build, plan, rowsOutcome, run}
 use Rattle.model.specs.Answers.{BuildAnswer, Accepted, PlanCallAnswer, RunAnswer}
 use Rattle.model.specs.Chain.{chainThreshold, chainStoreWords, isRefused, unlessRefused, stepBytes, planAndRun, chain, NoMatch}
 use Rattle.model.specs.declared.answer.Answer.the-variants.{None, Refused}
@@ -28,8 +27,8 @@ use Rattle.model.proofs.Solutions.{solutions-complete}
 use Rattle.model.proofs.Stores.{store-complete, built-holds}
 use Rattle.model.proofs.SiteFile.{site-file}
 use Rattle.model.proofs.PatternFile.{pattern-accepted}
-use Rattle.model.proofs.Refusals.{site-refuses, plan-refuses}
-use Rattle.model.proofs.Calls.{by-reply, by-question, by-check, wider, none-by-counts}
+use Rattle.model.proofs.Refusals.{site-refuses}
+use Rattle.model.proofs.Calls.{by-reply, by-question, by-check, by-run, wider}
 
 pub build-answers : (t : ℕ) (bytes memory : List ℕ) → BuildAnswer t bytes memory (build t bytes memory)
 unfolding build
@@ -60,19 +59,10 @@ module _ (words bytes memory : List ℕ) (c : Accepted words bytes) where
       by-question (RunAnswer words bytes memory) (unaltered memory) 21 (leb (length (r ∷ rs) * width (c .pattern)) (length memory)) _ (inl (21, omega arith, refl))
       λ _. inr (inr (c, rw e (omega arith), rw e refl))
 
-  by-counts : (b : Bool) → noneByCounts (c .store .site) (c .pattern) ≡ b
-      → RunAnswer words bytes memory (cond b (outcome None memory) (rowsOutcome (width (c .pattern)) (solutions (c .store .site) (c .pattern)) memory))
-  by-counts true e = inr (inl (c, refl, none-left (none-by-counts (c .store .site) (c .pattern) (pattern-accepted (c .store .site) bytes (c .pattern) (c .read)) e)))
-  by-counts false e = by-rows (solutions (c .store .site) (c .pattern)) refl
-
 pub run-answers : (words bytes steps memory : List ℕ) → RunAnswer words bytes memory (run words bytes steps memory)
-unfolding run
 run-answers words bytes steps memory =
-    by-check (RunAnswer words bytes memory) (unaltered memory) words bytes _
-    (λ n between. inl (n, wider 10 21 (omega arith) (omega arith) between, refl))
-    λ c. by-reply (RunAnswer words bytes memory) (unaltered memory) (readPlan (c .store) (c .pattern) steps) _
-    (λ n e. inl (n, wider 10 21 (omega arith) (omega arith) (plan-refuses (c .store) (c .pattern) steps .number-between n e), refl))
-    λ _ _. by-counts words bytes memory c (noneByCounts (c .store .site) (c .pattern)) refl
+    by-run (RunAnswer words bytes memory) words bytes steps memory (λ n between. inl (n, wider 10 21 (omega arith) (omega arith) between, refl))
+    λ c. by-rows words bytes memory c (solutions (c .store .site) (c .pattern)) refl
 
 refused-not-none : {X : Type 0} {n : ℕ} → Refused n ≡ None → X
 refused-not-none h = let z : _≡_ {A = ℕ} 0 1 = cc in absurd (omega arith)

@@ -3,7 +3,7 @@ use Prim.Native.Nat.{ℕ, _≤_}
 use native.Mathlib.Omega.{arith}
 use mathlib.Core.Path.{_≡_, refl}
 use mathlib.Core.Logic.{_⊎_, inl, inr}
-use mathlib.Core.Bool.{Bool, true, false, _&&_, _||_}
+use mathlib.Core.Bool.{Bool, true, false, cond, _&&_, _||_}
 use mathlib.Core.Option.{Option, none, some}
 use mathlib.Core.List.{List, []}
 use lib.ListN.{length}
@@ -14,19 +14,21 @@ use Rattle.model.specs.Reader.{Reply, refused, gives}
 use Rattle.model.specs.Site.{Row, Site}
 use Rattle.model.specs.Tables.{Kind, kinds}
 use Rattle.model.specs.Store.{Store, decoded, isStoreOf, storeOf}
-use Rattle.model.specs.Pattern.{Pattern, places, isAccepted, fullTable}
+use Rattle.model.specs.Pattern.{Pattern, width, places, isAccepted, fullTable}
 use Rattle.model.specs.PatternFile.{readPattern}
 use Rattle.model.specs.Plan.{qualifies, reducedTable}
+use Rattle.model.specs.PlanFile.{readPlan}
 use Rattle.model.specs.Solutions.{solutions}
 use Rattle.model.specs.Answers.{Between, Accepted}
-use Rattle.model.specs.Calls.{either, question, storeReply, Check, checkOf, checked, emptyAgainst, noneByCounts}
+use Rattle.model.specs.Calls.{Outcome, outcome, either, question, storeReply, unaltered, Check, checkOf, checked, emptyAgainst, noneByCounts, rowsOutcome, run}
+use Rattle.model.specs.declared.answer.Answer.the-variants.{None}
 use Rattle.model.proofs.Booleans.{and-cases, or-cases}
 use Rattle.model.proofs.Membership.{no-element, from-any}
 use Rattle.model.proofs.Below.{from-below}
 use Rattle.model.proofs.Places.{empty-reduced, empty-full}
 use Rattle.model.proofs.Stores.{store-sound}
 use Rattle.model.proofs.PatternFile.{pattern-accepted}
-use Rattle.model.proofs.Refusals.{pattern-refuses}
+use Rattle.model.proofs.Refusals.{pattern-refuses, plan-refuses}
 
 -- ---- none by counts
 
@@ -89,6 +91,30 @@ by-check {B} P refusal words bytes next f g = go (storeOf words) refl
         → Then (either refused (storeReply x) (λ store. either refused (readPattern (store .site) bytes) (λ pattern. gives (checkOf store pattern))))
     go none e = f 10 (omega arith)
     go (some store) e = read store e (readPattern (store .site) bytes) refl
+
+-- None from the counts is what the solutions give as well
+pub counts-agree : (site : Site) (pattern : Pattern) → isAccepted site pattern ≡ true → (memory : List ℕ)
+    → cond (noneByCounts site pattern) (outcome None memory) (rowsOutcome (width pattern) (solutions site pattern) memory)
+    ≡ rowsOutcome (width pattern) (solutions site pattern) memory
+unfolding rowsOutcome
+counts-agree site pattern accepted memory = go (noneByCounts site pattern) refl
+  where
+    go : (b : Bool) → noneByCounts site pattern ≡ b
+        → cond b (outcome None memory) (rowsOutcome (width pattern) (solutions site pattern) memory) ≡ rowsOutcome (width pattern) (solutions site pattern) memory
+    go true e = rw (none-by-counts site pattern accepted e) refl
+    go false e = refl
+
+-- a run refuses with 10 to 20, or answers by the solutions of an accepted check
+pub by-run : (P : Outcome → Type 0) (words bytes steps memory : List ℕ)
+    → ((n : ℕ) → Between 10 20 n → P (unaltered memory n))
+    → ((a : Accepted words bytes) → P (rowsOutcome (width (a .pattern)) (solutions (a .store .site) (a .pattern)) memory))
+    → P (run words bytes steps memory)
+unfolding run
+by-run P words bytes steps memory f g =
+    by-check P (unaltered memory) words bytes _ (λ n between. f n (wider 10 20 (omega arith) (omega arith) between))
+    λ a. by-reply P (unaltered memory) (readPlan (a .store) (a .pattern) steps) _
+    (λ n e. f n (wider 10 20 (omega arith) (omega arith) (plan-refuses (a .store) (a .pattern) steps .number-between n e)))
+    λ _ _. rw (counts-agree (a .store .site) (a .pattern) (pattern-accepted (a .store .site) bytes (a .pattern) (a .read)) memory) (g a)
 
 -- the pattern is accepted in the store's site
 pub check-accepted : (words bytes : List ℕ) (c : Check) → checked words bytes ≡ gives c → isAccepted (c .store .site) (c .pattern) ≡ true

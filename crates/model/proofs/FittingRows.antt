@@ -2,17 +2,16 @@
 use Prim.Native.Nat.{ℕ, _*_, _≤_}
 use native.Mathlib.Omega.{arith}
 use mathlib.Core.Path.{_≡_, refl, _∙_}
-use mathlib.Core.Bool.{Bool, true, false, cond, false≢true}
+use mathlib.Core.Bool.{true, false≢true}
 use mathlib.Core.List.{List, [], _∷_, List·Memᴰ·head, List·Memᴰ·tail}
 use lib.ListN.{length, replicate}
 use lib.Dec.{leb}
 use borrow.Author.Tests.{leb-true}
 use Rattle.model.specs.Lists.{_∈_, ascends, lexicographic}
 use Rattle.model.specs.Pattern.{Pattern, mostVariables, width}
-use Rattle.model.specs.PlanFile.{readPlan}
 use Rattle.model.specs.Site.{Site}
 use Rattle.model.specs.Solutions.{solutions}
-use Rattle.model.specs.Calls.{Outcome, outcome, unaltered, build, plan, noneByCounts, rowsOutcome, run}
+use Rattle.model.specs.Calls.{Outcome, unaltered, build, plan, rowsOutcome, run}
 use Rattle.model.specs.Chain.{chainThreshold, chainStoreWords, isRefused, unlessRefused, planAndRun, chain}
 use Rattle.model.specs.Text.{RowsFit}
 use Rattle.model.specs.declared.answer.Answer.{Answer}
@@ -23,7 +22,7 @@ use Rattle.model.proofs.Membership.{no-element}
 use Rattle.model.proofs.Solutions.{solutions-ascend, solutions-sound}
 use Rattle.model.proofs.Patterns.{width-limit}
 use Rattle.model.proofs.PatternFile.{pattern-accepted}
-use Rattle.model.proofs.Calls.{by-reply, by-question, by-check}
+use Rattle.model.proofs.Calls.{by-question, by-run}
 
 -- rows of no words that ascend are one at most
 few-empty : (rows : List (List ℕ)) → ((row : List ℕ) → row ∈ rows → row ≡ []) → ascends lexicographic rows ≡ true → length rows ≤ 1
@@ -49,18 +48,11 @@ module _ (memory : List ℕ) where
   rows-fit v narrow (r ∷ rs) few =
       by-question Fits (unaltered memory) 21 (leb (length (r ∷ rs) * v) (length memory)) _ tt λ room. (leb-true _ _ room, narrow, few)
 
-  by-counts : (b : Bool) (rows : Outcome) → Fits rows → Fits (cond b (outcome None memory) rows)
-  by-counts true rows h = tt
-  by-counts false rows h = h
-
   run-fits : (words bytes steps : List ℕ) → Fits (run words bytes steps memory)
-  unfolding run
   run-fits words bytes steps =
-      by-check Fits (unaltered memory) words bytes _ (λ n _. tt)
-      λ c. by-reply Fits (unaltered memory) (readPlan (c .store) (c .pattern) steps) _ (λ n _. tt)
-      λ _ _. by-counts (noneByCounts (c .store .site) (c .pattern)) _
-      (rows-fit (width (c .pattern)) (width-limit (c .store .site) (c .pattern) (pattern-accepted (c .store .site) bytes (c .pattern) (c .read)))
-      (solutions (c .store .site) (c .pattern)) (one-of-width-0 (c .store .site) (c .pattern)))
+      by-run Fits words bytes steps memory (λ n _. tt)
+      λ c. rows-fit (width (c .pattern)) (width-limit (c .store .site) (c .pattern) (pattern-accepted (c .store .site) bytes (c .pattern) (c .read)))
+      (solutions (c .store .site) (c .pattern)) (one-of-width-0 (c .store .site) (c .pattern))
 
   unless-fits : (answer : Answer) (next : Outcome) → Fits next → Fits (unlessRefused answer memory next)
   unfolding isRefused

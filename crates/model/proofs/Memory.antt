@@ -13,17 +13,17 @@ use Rattle.model.specs.SiteFile.{readSite}
 use Rattle.model.specs.Tables.{mostThreshold}
 use Rattle.model.specs.Store.{layout}
 use Rattle.model.specs.Pattern.{width}
-use Rattle.model.specs.PlanFile.{readPlan, stepNumbers}
+use Rattle.model.specs.PlanFile.{stepNumbers}
 use Rattle.model.specs.Plan.{Plan}
 use Rattle.model.specs.Planner.{planned}
 use Rattle.model.specs.Solutions.{solutions}
-use Rattle.model.specs.Calls.{Outcome, outcome, over, unaltered, build, checked, padded, withPlan, plan, noneByCounts, rowsOutcome, run, numberOf, valuesOf, planBytesOf}
+use Rattle.model.specs.Calls.{Outcome, over, unaltered, build, checked, padded, withPlan, plan, rowsOutcome, run, numberOf, valuesOf, planBytesOf}
 use Rattle.model.specs.declared.answer.Answer.{Answer}
 use Rattle.model.specs.declared.answer.Answer.the-variants.{Rows, None, Built, Refused}
 use Rattle.model.specs.declared.answer.Answer.the-variants.{Plan as PlanAnswer}
 use Rattle.model.specs.declared.answer.Planned.{Planned}
 use Rattle.model.proofs.Solutions.{solutions-sound}
-use Rattle.model.proofs.Calls.{by-reply, by-question, by-check}
+use Rattle.model.proofs.Calls.{by-reply, by-question, by-run}
 
 over-length : (words memory : List ℕ) → length words ≤ length memory → length (over words memory) ≡ length memory
 over-length words memory l = simp (length-append, length-drop) (omega arith)
@@ -58,17 +58,10 @@ module _ (memory : List ℕ) where
       λ fits. let l = leb-true (length (r ∷ rs) * v) (length memory) fits in
       over-length (concatMap (λ row. row) (r ∷ rs)) memory (omega (arith, rows-length v (r ∷ rs) h))
 
-  by-counts : (b : Bool) (o : Outcome) → Kept o → Kept (cond b (outcome None memory) o)
-  by-counts true o h = refl
-  by-counts false o h = h
-
   pub run-length : (words bytes steps : List ℕ) → Kept (run words bytes steps memory)
-  unfolding run
   run-length words bytes steps =
-      by-check Kept (unaltered memory) words bytes _ (λ n _. refl)
-      λ c. by-reply Kept (unaltered memory) (readPlan (c .store) (c .pattern) steps) _ (λ n e. refl)
-      λ _ _. by-counts (noneByCounts (c .store .site) (c .pattern)) _
-      (by-rows (width (c .pattern)) (solutions (c .store .site) (c .pattern)) λ row m. solutions-sound (c .store .site) (c .pattern) row m .one-term-each)
+      by-run Kept words bytes steps memory (λ n _. refl)
+      λ c. by-rows (width (c .pattern)) (solutions (c .store .site) (c .pattern)) λ row m. solutions-sound (c .store .site) (c .pattern) row m .one-term-each
 
 -- ---- the words and bytes lent for an answer
 

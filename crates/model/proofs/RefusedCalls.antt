@@ -1,9 +1,9 @@
 -- A call is refused exactly where a line of specs/Questions holds, with its number: the first question that is answered no.
 use Prim.Native.Nat.{ℕ, _*_, _<_}
 use native.Mathlib.Omega.{arith}
-use mathlib.Core.Path.{_≡_, refl, sym, ap, _∙_}
+use mathlib.Core.Path.{_≡_, refl, sym, _∙_}
 use mathlib.Core.Logic.{_⊎_, inl, inr, ⊎-elim, _↔_}
-use mathlib.Core.Bool.{Bool, true, false, cond}
+use mathlib.Core.Bool.{Bool, true, false}
 use mathlib.Core.Option.{Option, none, some}
 use mathlib.Core.List.{List, [], _∷_}
 use lib.ListN.{length}
@@ -13,11 +13,11 @@ use Rattle.model.specs.Site.{Site}
 use Rattle.model.specs.SiteFile.{readSite}
 use Rattle.model.specs.Tables.{mostThreshold}
 use Rattle.model.specs.Store.{layout, Holds, IsStore, Store, storeAt, storeOf}
-use Rattle.model.specs.Pattern.{Pattern, width, isAccepted}
+use Rattle.model.specs.Pattern.{Pattern, width}
 use Rattle.model.specs.PatternFile.{readPattern}
 use Rattle.model.specs.PlanFile.{readPlan}
 use Rattle.model.specs.Solutions.{solutions}
-use Rattle.model.specs.Calls.{Outcome, outcome, either, question, unaltered, build, Check, checkOf, checked, plan, noneByCounts, rowsOutcome, run}
+use Rattle.model.specs.Calls.{Outcome, either, question, unaltered, build, Check, checkOf, checked, plan, rowsOutcome, run}
 use Rattle.model.specs.Questions.{BuildRefused, CheckRefused, RunRefused}
 use Rattle.model.specs.Questions.BuildRefused.{threshold-too-large, site-refused, store-too-small}
 use Rattle.model.specs.Questions.CheckRefused.{no-store, pattern-refused}
@@ -25,10 +25,9 @@ use Rattle.model.specs.Questions.RunRefused.{check-refused, plan-refused
 use Rattle.model.specs.declared.answer.Answer.{Answer}
 use Rattle.model.specs.declared.answer.Answer.the-variants.{None, Refused}
 use Rattle.model.specs.declared.answer.Planned.{Planned}
-use Rattle.model.proofs.Booleans.{to-false}
 use Rattle.model.proofs.PatternFile.{pattern-accepted}
 use Rattle.model.proofs.Stores.{store-sound, store-complete}
-use Rattle.model.proofs.Calls.{by-reply, none-by-counts}
+use Rattle.model.proofs.Calls.{by-reply, counts-agree}
 use Rattle.model.proofs.Questions.{gives≢refused, same-number}
 use Rattle.model.proofs.Readers.{refused≢gives}
 use Rattle.model.proofs.RefusedFiles.{site-exactly, pattern-exactly, plan-exactly}
@@ -161,18 +160,6 @@ rows-exactly v (r ∷ rs) memory n = (
   λ (x : (n ≡ 21) × (length memory < length (r ∷ rs) * v)). rw (lt-leb (length (r ∷ rs) * v) (length memory) (x .1), x .0) refl,
 )
 
--- None from the counts is no refusal
-by-counts : {X : Type 0} {n : ℕ} (memory : List ℕ) (o : Outcome) (b : Bool) → cond b (outcome None memory) o .answer ≡ Refused n → (o .answer ≡ Refused n → X) → X
-by-counts memory o true h f = other-answer refl h
-by-counts memory o false h f = f h
-
--- and is not said where there are rows
-counts-say-more : (site : Site) (pattern : Pattern) → isAccepted site pattern ≡ true → (memory : List ℕ)
-    → length memory < length (solutions site pattern) * width pattern → noneByCounts site pattern ≡ false
-counts-say-more site pattern accepted memory l = to-false (noneByCounts site pattern) λ h.
-    let few : length (solutions site pattern) ≡ 0 = ap length (none-by-counts site pattern accepted h) in
-    omega (arith, rw few at l)
-
 module _ (words bytes steps memory : List ℕ) where
   pub run-exactly : (n : ℕ) → (run words bytes steps memory .answer ≡ Refused n) ↔ RunRefused words bytes steps memory n
   unfolding run either
@@ -186,8 +173,8 @@ module _ (words bytes steps memory : List ℕ) where
           by-no P memory (checked words bytes) _ h (λ m e. check-refused (check-exactly words bytes m .0 e))
           λ c e h. let a = check-gives words bytes c e in
           by-no P memory (readPlan (c .store) (c .pattern) steps) _ h (λ m e. plan-refused (a .0) (a .1) (plan-exactly (c .store) (c .pattern) steps m .0 e))
-          λ plan e h. by-counts memory _ (noneByCounts (c .store .site) (c .pattern)) h
-          (λ h. let r = rows-exactly (width (c .pattern)) (solutions (c .store .site) (c .pattern)) memory n .0 h in
+          λ plan e h. let accepted = pattern-accepted (c .store .site) bytes (c .pattern) (a .1) in
+          let r = rows-exactly (width (c .pattern)) (solutions (c .store .site) (c .pattern)) memory n .0 (rw (counts-agree (c .store .site) (c .pattern) accepted memory) at h) in
           rw (r .0) (rows-too-many (record {
             t = c .store .threshold;
             site = c .store .site;
@@ -197,12 +184,12 @@ module _ (words bytes steps memory : List ℕ) where
             plan = plan;
             proper = e;
             exceed = r .1;
-          })))
+          }))
 
       from : {n : ℕ} → P n → run words bytes steps memory .answer ≡ Refused n
       from (check-refused {n} r) = rw (check-exactly words bytes n .1 r) refl
       from (plan-refused {t} {n} {site} {pattern} holds read r) = rw (check-given words bytes holds read, plan-exactly (storeAt t site) pattern steps n .1 r) refl
       from (rows-too-many r) =
           let accepted = pattern-accepted (r .site) bytes (r .pattern) (r .accepted) in
-          rw (check-given words bytes (r .holds) (r .accepted), r .proper, counts-say-more (r .site) (r .pattern) accepted memory (r .exceed))
+          rw (check-given words bytes (r .holds) (r .accepted), r .proper, counts-agree (r .site) (r .pattern) accepted memory)
           (rows-exactly (width (r .pattern)) (solutions (r .site) (r .pattern)) memory 21 .1 (refl, r .exceed))

@@ -2,13 +2,12 @@
 use Prim.Native.Nat.{ℕ, _+_, _-_, _*_, _≤_}
 use native.Mathlib.Omega.{arith}
 use mathlib.Core.Path.{_≡_, refl, ap, _∙_}
-use mathlib.Core.Bool.{Bool, true, false, cond}
 use mathlib.Core.List.{List, [], _∷_}
 use lib.ListN.{length, getD, drop, length-append, length-drop}
 use lib.Seq.{getD-append-add, getD-drop}
 use borrow.Author.Tests.{le-leb}
 use Rattle.model.specs.Lists.{concatMap}
-use Rattle.model.specs.Reader.{refused, gives}
+use Rattle.model.specs.Reader.{gives}
 use Rattle.model.specs.Site.{Site}
 use Rattle.model.specs.SiteFile.{readSite}
 use Rattle.model.specs.Tables.{mostThreshold}
@@ -19,12 +18,12 @@ use Rattle.model.specs.Plan.{Plan}
 use Rattle.model.specs.PlanFile.{readPlan}
 use Rattle.model.specs.Planner.{planned}
 use Rattle.model.specs.Solutions.{solutions}
-use Rattle.model.specs.Calls.{outcome, over, either, build, checkOf, checked, withPlan, plan, noneByCounts, rowsOutcome, run}
-use Rattle.model.specs.declared.answer.Answer.the-variants.{Rows, None, Built, Refused}
+use Rattle.model.specs.Calls.{outcome, over, either, build, checkOf, checked, withPlan, plan, rowsOutcome, run}
+use Rattle.model.specs.declared.answer.Answer.the-variants.{Rows, Built}
 use Rattle.model.specs.declared.answer.Answer.the-variants.{Plan as PlanAnswer}
 use Rattle.model.proofs.Stores.{store-complete}
 use Rattle.model.proofs.PatternFile.{pattern-accepted}
-use Rattle.model.proofs.Calls.{none-by-counts}
+use Rattle.model.proofs.Calls.{counts-agree}
 
 -- ---- build
 
@@ -44,23 +43,10 @@ module _ (words bytes : List ℕ) (t : ℕ) (site : Site) (pattern : Pattern) (h
   unfolding plan either
   plan-succeeds = rw check-succeeds refl
 
-  -- None from the counts is what the solutions give as well
-  counted : (memory : List ℕ) (b : Bool) → noneByCounts site pattern ≡ b
-      → cond b (outcome None memory) (rowsOutcome (width pattern) (solutions site pattern) memory) ≡ rowsOutcome (width pattern) (solutions site pattern) memory
-  unfolding rowsOutcome
-  counted memory true e = rw (none-by-counts site pattern (pattern-accepted site bytes pattern read) e) refl
-  counted memory false e = refl
-
   pub run-succeeds : (steps memory : List ℕ) (given : Plan) → readPlan (storeAt t site) pattern steps ≡ gives given
       → run words bytes steps memory ≡ rowsOutcome (width pattern) (solutions site pattern) memory
   unfolding run either
-  run-succeeds steps memory given proper = rw (check-succeeds, proper) (counted memory (noneByCounts site pattern) refl)
-
-  -- the plan is asked before the counts
-  pub run-refused : (steps memory : List ℕ) (n : ℕ) → readPlan (storeAt t site) pattern steps ≡ refused n
-      → run words bytes steps memory ≡ outcome (Refused n) memory
-  unfolding run either
-  run-refused steps memory n e = rw (check-succeeds, e) refl
+  run-succeeds steps memory given proper = rw (check-succeeds, proper) (counts-agree site pattern (pattern-accepted site bytes pattern read) memory)
 
 -- ---- rows
 

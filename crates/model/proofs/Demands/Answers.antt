@@ -25,7 +25,7 @@ use Rattle.model.specs.declared.answer.Answer.{Answer}
 use Rattle.model.specs.declared.answer.Answer.the-variants.{Rows, None, Built, Refused}
 use Rattle.model.specs.declared.answer.Answer.the-variants.{Plan as PlanAnswer}
 use Rattle.model.proofs.Answers.{build-answers, plan-answers, run-answers, run-none, chain-none}
-use Rattle.model.proofs.Success.{build-succeeds, plan-succeeds, run-succeeds, run-refused, rows-fit, over-later, over-length}
+use Rattle.model.proofs.Success.{build-succeeds, plan-succeeds, run-succeeds, rows-fit, over-later, over-length}
 use Rattle.model.proofs.ChainRows.{refused-exactly, chain-solutions, chain-build-refused, chain-plan-refused}
 
 -- ==== Demand 1. Each call, on all bytes and words whatsoever, answers with what it was called for (tables, a plan, rows or none) or
@@ -82,16 +82,6 @@ Run-Succeeds =
 
 pub demand-1-ran : Run-Succeeds
 demand-1-ran words bytes steps memory t site pattern given holds read = run-succeeds words bytes t site pattern holds read steps memory given
-
--- a given plan that is refused: its number, also where the counts alone would give None, which is said after question 20
-abbrev pub Run-Refuses-Plan : Type 0
-Run-Refuses-Plan =
-    (words bytes steps memory : List ℕ) (t : ℕ) (site : Site) (pattern : Pattern) (n : ℕ)
-    → Holds words t site → readPattern site bytes ≡ gives pattern → readPlan (storeAt t site) pattern steps ≡ refused n
-    → run words bytes steps memory ≡ outcome (Refused n) memory
-
-pub run-refuses-plan : Run-Refuses-Plan
-run-refuses-plan words bytes steps memory t site pattern n holds read = run-refused words bytes t site pattern holds read steps memory n
 
 -- no row: None, and all words keep their content; rows that fit: Rows (their count, width V), and the rows' words over the memory
 abbrev pub Rows-Answer : Type 0
