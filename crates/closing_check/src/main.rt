@@ -1,23 +1,23 @@
 // The check program: reads site.dat and check.dat in the folder that it runs in, and prints what the chain answers.
 mod files;
-mod printing;
+mod screen;
 
-use chain::check::check_site;
 use files::read_file;
-use printing::print_answer;
+use screen::show;
 
 const SITE_BYTES: usize = 8192;
 
 const CHECK_BYTES: usize = 128;
 
-const ROW_WORDS: usize = 4096;
+// A first line, and 4,096 words of at most twenty digits with a byte behind each.
+const SCREEN_BYTES: usize = 86070;
 
 fn main() {
     let mut site = [0u8; SITE_BYTES];
-    let site_size = read_file(b"site.dat", &mut site);
+    let zones = read_file(b"site.dat", &mut site);
     let mut check = [0u8; CHECK_BYTES];
-    let check_size = read_file(b"check.dat", &mut check);
-    let mut rows = [0u32; ROW_WORDS];
-    let answer = check_site(&site[..site_size], &check[..check_size], &mut rows);
-    print_answer(answer, &rows);
+    let question = read_file(b"check.dat", &mut check);
+    let mut out = [0u8; SCREEN_BYTES];
+    let size = show(&site, zones, &check, question, &mut out);
+    io::write_all(1, &out[..size]);
 }

@@ -1,5 +1,6 @@
+-- Two files are read, one function makes the screen of them, and it is written.
+use native.Mathlib.Omega.{arith}
 use borrow.Author.Needs.{needs}
-use Rattle.closing_check.proofs.Lines.{as-many-fit}
 use Rattle.closing_check.proofs.main.Statement.{statement}
 use Rattle.closing_check.proofs.main.Tie as tie
 
@@ -21,31 +22,26 @@ slice-aggregate-read-file-4 c = search needs
 read-file-requires-2 : tie.Need-read-file-requires-2
 read-file-requires-2 c κs = search needs
 
-array-share-prefix-site : tie.Need-array-share-prefix-site
-array-share-prefix-site c = search needs
+slice-aggregate-show : tie.Need-slice-aggregate-show
+slice-aggregate-show c = search needs
 
-slice-aggregate-check-site : tie.Need-slice-aggregate-check-site
-slice-aggregate-check-site c = search needs
+slice-aggregate-show-2 : tie.Need-slice-aggregate-show-2
+slice-aggregate-show-2 c = search needs
 
-array-share-prefix-check : tie.Need-array-share-prefix-check
-array-share-prefix-check c = search needs
+slice-aggregate-show-3 : tie.Need-slice-aggregate-show-3
+slice-aggregate-show-3 c = search needs
 
-slice-aggregate-check-site-2 : tie.Need-slice-aggregate-check-site-2
-slice-aggregate-check-site-2 c = search needs
+show-requires : tie.Need-show-requires
+show-requires c κs = (c .before .before .before .before .before .before .before .before .read-file .ensures, c .before .before .before .before .read-file2 .ensures, omega arith)
 
-slice-aggregate-check-site-3 : tie.Need-slice-aggregate-check-site-3
-slice-aggregate-check-site-3 c = search needs
+array-share-prefix-out : tie.Need-array-share-prefix-out
+array-share-prefix-out c = search needs
 
-check-site-requires : tie.Need-check-site-requires
-check-site-requires c κs = search needs
+slice-aggregate-write-all : tie.Need-slice-aggregate-write-all
+slice-aggregate-write-all c = search needs
 
-slice-aggregate-print-answer : tie.Need-slice-aggregate-print-answer
-slice-aggregate-print-answer c = search needs
-
-print-answer-requires : tie.Need-print-answer-requires
-print-answer-requires c κs =
-    let k = c .before .before .check-site in
-    as-many-fit (k .result) _ _ (k .kept .1 .1 .0) (k .ensures .1 .0)
+write-all-requires : tie.Need-write-all-requires
+write-all-requires c κs = search needs
 
 returns : tie.Need-returns
 returns c = search needs
@@ -60,12 +56,11 @@ main-spec =
     slice-aggregate-read-file-3
     slice-aggregate-read-file-4
     read-file-requires-2
-    array-share-prefix-site
-    slice-aggregate-check-site
-    array-share-prefix-check
-    slice-aggregate-check-site-2
-    slice-aggregate-check-site-3
-    check-site-requires
-    slice-aggregate-print-answer
-    print-answer-requires
+    slice-aggregate-show
+    slice-aggregate-show-2
+    slice-aggregate-show-3
+    show-requires
+    array-share-prefix-out
+    slice-aggregate-write-all
+    write-all-requires
     returns)
