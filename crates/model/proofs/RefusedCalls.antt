@@ -43,14 +43,14 @@ module _ (P : ℕ → Type 0) {n : ℕ} where
   this-number {m} h p = let same : n ≡ m = cc in rw same p
 
   -- the answer to what follows a reply is refusal n
-  pub by-no : {A : Type 0} (memory : List ℕ) (reply : Reply A) (next : A → Outcome) → either (unaltered memory) reply next .answer ≡ Refused n
+  by-no : {A : Type 0} (memory : List ℕ) (reply : Reply A) (next : A → Outcome) → either (unaltered memory) reply next .answer ≡ Refused n
       → ((m : ℕ) → reply ≡ refused m → P m) → ((a : A) → reply ≡ gives a → next a .answer ≡ Refused n → P n) → P n
   unfolding either
   by-no memory (refused m) next h f g = this-number h (f m refl)
   by-no memory (gives a) next h f g = g a refl h
 
   -- and what follows a question of its own
-  pub by-own : (memory : List ℕ) (own : ℕ) (b : Bool) (next : Unit {0} → Outcome) → either (unaltered memory) (question own b) next .answer ≡ Refused n
+  by-own : (memory : List ℕ) (own : ℕ) (b : Bool) (next : Unit {0} → Outcome) → either (unaltered memory) (question own b) next .answer ≡ Refused n
       → (b ≡ false → P own) → (b ≡ true → next tt .answer ≡ Refused n → P n) → P n
   unfolding either
   by-own memory own true next h f g = g refl h
@@ -122,7 +122,7 @@ module _ (words bytes : List ℕ) where
   unfolding checked either
   check-given {t} {site} holds read = rw (store-complete words t site holds, read) refl
 
-  pub check-exactly : (n : ℕ) → (checked words bytes ≡ refused n) ↔ CheckRefused words bytes n
+  check-exactly : (n : ℕ) → (checked words bytes ≡ refused n) ↔ CheckRefused words bytes n
   unfolding checked either
   check-exactly n = ((λ h. to store-asked h), from)
     where
