@@ -1,8 +1,8 @@
-// Preloaded under the check program: its reads of one file fail, or give short counts, as the environment says.
+// Preloaded under the check program: its reads of one file fail, or all give short counts, as the environment says.
 //   READ_FILE      the name of the file
-//   READ_FAILS_AT  the place, from 0, of the read of that file that fails
-//   READ_STAYS     1: the reads after that one fail as well
-//   READ_MOST      the most bytes that a read gives
+//   READ_FAILS_AT  the place in it, from 0, where a read fails; a read before that place goes no further than there
+//   READ_STAYS     1: each read there fails; 0: only the first
+//   READ_MOST      the most bytes that a read of any file gives
 #define _GNU_SOURCE
 #include <errno.h>
 #include <stdio.h>
@@ -29,17 +29,24 @@ static int is_chosen(int fd) {
     return name != NULL && strcmp(name + 1, chosen) == 0;
 }
 
-static int fails(long place) {
-    long at = setting("READ_FAILS_AT", -1);
-    return at >= 0 && (place == at || (place > at && setting("READ_STAYS", 0)));
+static size_t least(size_t a, size_t b) {
+    return a < b ? a : b;
 }
 
 ssize_t read(int fd, void *buffer, size_t size) {
-    static long place = 0;
-    if (is_chosen(fd) && fails(place++)) {
-        errno = EIO;
-        return -1;
+    static int failed = 0;
+    size = least(size, (size_t) setting("READ_MOST", (long) size));
+    if (is_chosen(fd)) {
+        long at = setting("READ_FAILS_AT", -1);
+        long here = lseek(fd, 0, SEEK_CUR);
+        if (here == at && (failed == 0 || setting("READ_STAYS", 0))) {
+            failed = 1;
+            errno = EIO;
+            return -1;
+        }
+        if (here < at) {
+            size = least(size, (size_t) (at - here));
+        }
     }
-    size_t most = (size_t) setting("READ_MOST", (long) size);
-    return syscall(SYS_read, fd, buffer, size < most ? size : most);
+    return syscall(SYS_read, fd, buffer, size);
 }
