@@ -79,10 +79,6 @@ oneEmptyWords =
 abbrev pub longNumbers : List ℕ
 longNumbers = 0x01 ∷ 0xFF ∷ 0xFF ∷ 0x03 ∷ 0x02 ∷ 0xAC ∷ 0x02 ∷ 0xFF ∷ 0xFF ∷ 0x03 ∷ 0xFF ∷ 0xFF ∷ 0x03 ∷ 0xAC ∷ 0x02 ∷ []
 
--- predicates 0 to 15, none with rows
-abbrev pub sixteenEmpty : List ℕ
-sixteenEmpty = 0x10 ∷ concatMap (λ p. p ∷ 0x00 ∷ []) (below 16)
-
 abbrev pub buildCases : List Case
 buildCases =
     -- 1: T 1,001, whatever the site; T 0: no table is stored
@@ -98,10 +94,6 @@ buildCases =
     ∷ (
       build 1000 longNumbers (lent 16),
       outcome (Built 16) (1 ∷ 1000 ∷ 16 ∷ 65535 ∷ 2 ∷ 12 ∷ 2 ∷ 0 ∷ 2 ∷ 0 ∷ 2 ∷ 0 ∷ 300 ∷ 65535 ∷ 65535 ∷ 300 ∷ []),
-    )
-    ∷ (
-      build 1000 sixteenEmpty (lent 1587),
-      outcome (Built 1587) (16 ∷ 1000 ∷ 1587 ∷ (concatMap (λ p. p ∷ 0 ∷ 1587 ∷ []) (below 16) ++ replicate 1536 0)),
     )
     ∷ []
 

@@ -31,7 +31,11 @@ accepted-check c = check-given _ _ _ (c .before .before .checked .ensures) (c .b
 read-plan-requires : tie.Need-read-plan-requires
 read-plan-requires c κs = let (validated, holds, accepted, numbers) = accepted-check c in (validated, holds)
 
--- None from the counts stands above the refusal before it: the edit that asks it before 18 then meets the return that it makes wrong
+returns-2 : tie.Need-returns-2
+returns-2 c =
+    let check = c .before .before .before in
+    sym (run-plan-refused _ _ _ _ _ (check .before .checked .ensures) (check .if1 .left) _ (c .before .read-plan .ensures) (c .if2 .taken))
+
 none-by-counts-requires : tie.Need-none-by-counts-requires
 none-by-counts-requires c κs = let (validated, holds, accepted, numbers) = accepted-check (c .before .before) in (validated, holds)
 
@@ -41,11 +45,6 @@ returns-3 c =
     let check = given .before .before .before in
     let counts = sym (c .before .none-by-counts .ensures) ∙ c .if3 .taken in
     sym (run-given _ _ _ _ _ (check .before .checked .ensures) (check .if1 .left) _ (given .before .read-plan .ensures) (given .if2 .left) counts)
-
-returns-2 : tie.Need-returns-2
-returns-2 c =
-    let check = c .before .before .before in
-    sym (run-plan-refused _ _ _ _ _ (check .before .checked .ensures) (check .if1 .left) _ (c .before .read-plan .ensures) (c .if2 .taken))
 
 run-plan-requires : tie.Need-run-plan-requires
 run-plan-requires c κs =
