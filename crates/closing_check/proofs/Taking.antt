@@ -1,12 +1,14 @@
 -- What a read said, and what is taken then.
 use Prim.Native.Nat.{ℕ, zero, suc}
 use native.Mathlib.Omega.{arith}
-use mathlib.Core.Path.{_≡_, refl, sym}
+use mathlib.Core.Path.{_≡_, refl}
 use mathlib.Core.Bool.{true, false, cond, false≢true}
 use lib.IntN.{ℤ, pos, negsuc}
 use lib.Dec.{eqb}
 use lib.Signed.{ltZ, leZ}
-use borrow.Author.Tests.{ltb-true, ltb-false, leb-true}
+use mir.Syntax.{w64}
+use mir.Val.{ofZ}
+use borrow.Author.Tests.{ltb-false, leb-true}
 use Rattle.model.specs.Files.{takenSize}
 
 -- it did not say that there may be more
@@ -14,19 +16,18 @@ pub no-more : {X : Type 0} {said : ℤ} {n : ℕ} → leZ said (pos 0) ≡ true 
 no-more {n = n} h e = let l = leb-true (suc n) 0 (rw e at h) in absurd (omega arith)
 
 module _ (room size : ℕ) where
+  pub all-taken : {said : ℤ} → said ≡ pos 0 → takenSize room size said ≡ size
+  unfolding takenSize
+  all-taken e = rw e refl
+
   pub more-taken : (said : ℤ) → ltZ (pos 0) said ≡ true → takenSize room size said ≡ cond (eqb size room) size 0
   unfolding takenSize
   more-taken (pos zero) h = absurd (false≢true h)
   more-taken (pos (suc n)) h = refl
   more-taken (negsuc n) h = absurd (false≢true h)
 
-  pub none-taken : (said : ℤ) → ltZ said (pos 0) ≡ true → takenSize room size said ≡ 0
+  pub none-taken : (said : ℤ) → (ofZ w64 said ≡ 0 → ⊥) → ltZ (pos 0) said ≡ false → takenSize room size said ≡ 0
   unfolding takenSize
-  none-taken (pos n) h = let l = ltb-true n 0 h in absurd (omega arith)
-  none-taken (negsuc n) h = refl
-
-  pub all-taken : (said : ℤ) → ltZ (pos 0) said ≡ false → ltZ said (pos 0) ≡ false → takenSize room size said ≡ size
-  unfolding takenSize
-  all-taken (pos zero) h k = refl
-  all-taken (pos (suc n)) h k = let l = ltb-false 0 (suc n) h in absurd (omega arith)
-  all-taken (negsuc n) h k = absurd (false≢true (sym k))
+  none-taken (pos zero) other h = absurd (other refl)
+  none-taken (pos (suc n)) other h = let l = ltb-false 0 (suc n) h in absurd (omega arith)
+  none-taken (negsuc n) other h = refl

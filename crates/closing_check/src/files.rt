@@ -41,16 +41,16 @@ pub fn read_file(path: &[u8], buffer: &mut [u8]) -> Reading
     reading
 }
 
-// How many of the bytes read are taken, by what the last read said: where there may be more only those that fill the buffer, where it
-// failed none, and where the file has ended all.
+// How many of the bytes read are taken, by what the last read said: where the file has ended all, where there may be more only those that
+// fill the buffer, and where the read failed none.
 pub fn taken(buffer: &[u8], size: usize, said: isize) -> usize
     ensures { λ r. ⌜ r ≡ takenSize (length (now (buffer .entry))) size said ⌝ }
 {
+    if said == 0 {
+        return size;
+    }
     if 0 < said {
         return if size == buffer.len() { size } else { 0 };
     }
-    if said < 0 {
-        return 0;
-    }
-    size
+    0
 }
