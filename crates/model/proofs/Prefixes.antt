@@ -9,7 +9,7 @@ use mathlib.Core.List.{List, [], _∷_, _++_}
 use lib.ListN.{length, drop}
 use lib.Seq.{drop-append-le}
 use lib.Dec.{eqb, ltb}
-use Rattle.model.specs.Reader.{Reply, refused, gives, Reader, after, ask, wholeFile, repeated}
+use Rattle.model.specs.Reader.{refused, gives, Reader, after, ask, wholeFile, repeated}
 use Rattle.model.specs.Numbers.{Sized, lastGroup, lowGroup, numberWithin, numberIn, orRefused, number}
 use Rattle.model.specs.Site.{Row, Site}
 use Rattle.model.specs.SiteFile.{Declaration, declaration, row, tables, siteFile, readSite}

@@ -1,11 +1,11 @@
 -- The first line of an answer: texts put one behind the other.
-use Prim.Native.Nat.{ℕ, _+_, _≤_, _<_}
+use Prim.Native.Nat.{ℕ, _+_, _≤_}
 use native.Mathlib.Omega.{arith}
 use mathlib.Core.Path.{_≡_, refl, _∙_, subst}
 use mathlib.Core.List.{List, [], _∷_, _++_, append-assoc}
 use lib.ListN.{length, set, length-append}
 use lib.Seq.{sets}
-use Rattle.model.specs.Text.{mostDigits, decimal, rowsText, widthText, refusedText, firstLine}
+use Rattle.model.specs.Text.{decimal, rowsText, widthText, refusedText, firstLine}
 use Rattle.model.specs.declared.answer.Answer.{Answer}
 use Rattle.model.specs.declared.answer.Answer.the-variants.{Rows, None, Built, Refused}
 use Rattle.model.specs.declared.answer.Answer.the-variants.{Plan as PlanAnswer}

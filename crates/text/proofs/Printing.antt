@@ -2,11 +2,11 @@
 use Prim.Native.Nat.{ℕ, _+_, _*_, _≤_}
 use native.Mathlib.Omega.{arith}
 use mathlib.Core.Path.{_≡_, refl, sym, _∙_}
-use mathlib.Core.List.{List, [], _++_, append-nil}
+use mathlib.Core.List.{List, [], append-nil}
 use lib.ListN.{length, take, length-append}
 use Rattle.model.specs.Text.{firstLine, rowLines, printed, RowsFit}
 use Rattle.model.specs.declared.answer.Answer.{Answer}
-use Rattle.text.proofs.Writing.{Written, written-none, written-put, front-taken}
+use Rattle.text.proofs.Writing.{written-none, written-put, front-taken}
 use Rattle.text.proofs.FirstLines.{Put}
 use Rattle.text.proofs.RowLines.{printed-size}
 
