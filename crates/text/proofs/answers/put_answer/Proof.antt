@@ -1,8 +1,10 @@
 -- The first line at the front, and behind it the lines of rows, where there are some.
 use native.Mathlib.Omega.{arith}
-use mathlib.Core.Path.{refl}
+use mathlib.Core.Path.{_≡_, refl}
+use mathlib.Core.List.{[]}
+use lib.ListN.{length, take}
 use borrow.Author.Needs.{needs}
-use Rattle.model.specs.Text.{rowLines}
+use Rattle.model.specs.Text.{rowLines, printed}
 use Rattle.text.proofs.FirstLines.{first-length}
 use Rattle.text.proofs.Printing.{printed-fits, rows-printed, line-printed}
 use Rattle.text.proofs.answers.put_answer.Statement.{statement}
@@ -38,6 +40,16 @@ enum-told-4 c = search needs
 same-length : tie.Need-same-length
 same-length c = search needs
 
+-- an answer without rows
+without-rows : (k : tie.After-put-first-line) →
+    let args = k .before .before .before .before .args in
+    rowLines (args .answer) (args .words .now) ≡ []
+    → (k .put-first-line .result ≡ length (printed (args .answer) (args .words .now)))
+    × (take (k .put-first-line .result) (k .put-first-line .last .1 .0) ≡ printed (args .answer) (args .words .now))
+without-rows k none =
+    let start = k .before .before .before .before in
+    line-printed (start .args .answer) (start .args .words .now) (start .args .out .now) (start .pre .0) (start .pre .1) none (k .put-first-line .ensures)
+
 returns : tie.Need-returns
 returns c =
     let start = c .before .before .before .before .before .before .before .before .before .before .before .before .before in
@@ -49,40 +61,28 @@ same-length-2 c = search needs
 
 returns-2 : tie.Need-returns-2
 unfolding rowLines
-returns-2 c =
-    let start = c .before .before .before .before .before .before .before .before in
-    line-printed (start .args .answer) (start .args .words .now) (start .args .out .now) (start .pre .0) (start .pre .1) (rw (c .enum-told .given .1) refl)
-    (c .before .before .before .before .put-first-line .ensures)
+returns-2 c = without-rows (c .before .before .before .before) (rw (c .enum-told .given .1) refl)
 
 same-length-3 : tie.Need-same-length-3
 same-length-3 c = search needs
 
 returns-3 : tie.Need-returns-3
 unfolding rowLines
-returns-3 c =
-    let start = c .before .before .before .before .before .before .before .before in
-    line-printed (start .args .answer) (start .args .words .now) (start .args .out .now) (start .pre .0) (start .pre .1) (rw (c .enum-told2 .given .1) refl)
-    (c .before .before .before .before .put-first-line .ensures)
+returns-3 c = without-rows (c .before .before .before .before) (rw (c .enum-told2 .given .1) refl)
 
 same-length-4 : tie.Need-same-length-4
 same-length-4 c = search needs
 
 returns-4 : tie.Need-returns-4
 unfolding rowLines
-returns-4 c =
-    let start = c .before .before .before .before .before .before .before .before in
-    line-printed (start .args .answer) (start .args .words .now) (start .args .out .now) (start .pre .0) (start .pre .1) (rw (c .enum-told3 .given .1) refl)
-    (c .before .before .before .before .put-first-line .ensures)
+returns-4 c = without-rows (c .before .before .before .before) (rw (c .enum-told3 .given .1) refl)
 
 same-length-5 : tie.Need-same-length-5
 same-length-5 c = search needs
 
 returns-5 : tie.Need-returns-5
 unfolding rowLines
-returns-5 c =
-    let start = c .before .before .before .before .before .before .before .before in
-    line-printed (start .args .answer) (start .args .words .now) (start .args .out .now) (start .pre .0) (start .pre .1) (rw (c .enum-told4 .given .1) refl)
-    (c .before .before .before .before .put-first-line .ensures)
+returns-5 c = without-rows (c .before .before .before .before) (rw (c .enum-told4 .given .1) refl)
 
 pub put-answer-spec : {M : Type 1} → statement M
 put-answer-spec =
