@@ -1,8 +1,7 @@
 // The check program: reads site.dat and check.dat in the folder that it runs in, and prints what the chain answers.
-mod files;
 mod screen;
 
-use files::read_file;
+use files::reading::read_file;
 use screen::show;
 
 const SITE_BYTES: usize = 8192;

@@ -4,10 +4,10 @@ ghost use lib.ListN.{length, take};
 ghost use Rattle.io.specs.Counts.{Counts};
 ghost use Rattle.model.specs.Files.{taken};
 ghost use Rattle.model.specs.Text.{screen};
-ghost use Rattle.closing_check.specs.Reading.{IsRead};
-use crate::files::Reading;
-use crate::files::taken;
+ghost use Rattle.files.specs.Reading.{IsRead};
 use chain::check::check_site;
+use files::reading::Reading;
+use files::reading::taken;
 use text::answers::put_answer;
 
 const ROW_WORDS: usize = 4096;

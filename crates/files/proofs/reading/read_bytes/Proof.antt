@@ -4,9 +4,9 @@ use native.Mathlib.Omega.{arith}
 use mathlib.Core.Path.{_≡_, refl}
 use lib.ListN.{length, length-set}
 use borrow.Author.Needs.{needs}
-use Rattle.closing_check.proofs.Taking.{no-more}
-use Rattle.closing_check.proofs.files.read_bytes.Statement.{statement}
-use Rattle.closing_check.proofs.files.read_bytes.Tie as tie
+use Rattle.files.proofs.Taking.{no-more}
+use Rattle.files.proofs.reading.read_bytes.Statement.{statement}
+use Rattle.files.proofs.reading.read_bytes.Tie as tie
 
 abbrev Inv-loop : tie.InvT-loop
 Inv-loop fd buffer₀ byte₀ size₀ buffer byte size = (size ≤ length buffer) × (length buffer ≡ length buffer₀) × (length byte ≡ 1)

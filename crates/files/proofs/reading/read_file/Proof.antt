@@ -3,9 +3,9 @@ use native.Mathlib.Omega.{arith}
 use mathlib.Core.Path.{refl}
 use lib.IntN.{pos}
 use borrow.Author.Needs.{needs}
-use Rattle.closing_check.proofs.Taking.{no-more}
-use Rattle.closing_check.proofs.files.read_file.Statement.{statement}
-use Rattle.closing_check.proofs.files.read_file.Tie as tie
+use Rattle.files.proofs.Taking.{no-more}
+use Rattle.files.proofs.reading.read_file.Statement.{statement}
+use Rattle.files.proofs.reading.read_file.Tie as tie
 
 open-read-requires : tie.Need-open-read-requires
 open-read-requires c κs = search needs

@@ -4,9 +4,9 @@ use mir.Syntax.{w64}
 use mir.Val.{toZ}
 use mir.Facts.{toZ-ofZ}
 use borrow.Author.Tests.{eq-eqb, ne-eqb}
-use Rattle.closing_check.proofs.Taking.{all-taken, more-taken, none-taken}
-use Rattle.closing_check.proofs.files.taken.Statement.{statement}
-use Rattle.closing_check.proofs.files.taken.Tie as tie
+use Rattle.files.proofs.Taking.{all-taken, more-taken, none-taken}
+use Rattle.files.proofs.reading.taken.Statement.{statement}
+use Rattle.files.proofs.reading.taken.Tie as tie
 
 returns : tie.Need-returns
 returns c = sym (all-taken _ _ (sym (toZ-ofZ (c .before .fits .said)) ∙ ap (toZ w64) (c .if1 .taken)))

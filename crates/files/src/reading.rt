@@ -1,7 +1,7 @@
 ghost use mathlib.Core.Path.{_≡_};
 ghost use lib.ListN.{length};
 ghost use Rattle.model.specs.Files.{takenSize};
-ghost use Rattle.closing_check.specs.Reading.{IsRead};
+ghost use Rattle.files.specs.Reading.{IsRead};
 
 // What was read of a file: the count of bytes, and what the last read said. 0: the file has ended. Below 0: the read failed. Above 0:
 // there may be more.
