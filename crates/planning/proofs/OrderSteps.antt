@@ -18,7 +18,7 @@ use Rattle.model.specs.declared.plan.Plan.{Plan as PlanNumbers}
 use Rattle.model.proofs.Membership.{filter-all, any-append, filter-same, filter-filter}
 use Rattle.model.proofs.Below.{from-below}
 use Rattle.model.proofs.Ordering.{from-ordered, ordered}
-use Rattle.plans.specs.Choices.{TablesChosen}
+use Rattle.choosing.specs.Choices.{TablesChosen}
 use Rattle.planning.specs.Flags.{pickBy}
 use Rattle.plans.proofs.PlanReading.{step-written}
 use Rattle.planning.proofs.Picking.{picked}

@@ -4,7 +4,7 @@ ghost use Rattle.model.specs.Store.{decoded};
 ghost use Rattle.catalog.specs.Lookups.{Validated};
 ghost use Rattle.patterns.specs.Members.{patternIn, PatternHolds};
 ghost use Rattle.plans.specs.Replies.{PlanReadAs};
-use crate::choosing::may_choose;
+use choosing::choosing::may_choose;
 use model::plan::Plan;
 use numbers::number::Number;
 use numbers::number::read_number;

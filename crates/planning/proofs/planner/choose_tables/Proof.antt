@@ -10,7 +10,7 @@ use Rattle.model.specs.Pattern.{positions}
 use Rattle.model.specs.Planner.{isFixed}
 use Rattle.patterns.specs.Members.{patternIn}
 use Rattle.patterns.proofs.MemberLaws.{triple-member}
-use Rattle.plans.specs.Choices.{TablesChosen}
+use Rattle.choosing.specs.Choices.{TablesChosen}
 use Rattle.planning.proofs.OrderSteps.{none-chosen, chosen-more}
 use Rattle.planning.proofs.planner.choose_tables.Statement.{statement}
 use Rattle.planning.proofs.planner.choose_tables.Tie as tie

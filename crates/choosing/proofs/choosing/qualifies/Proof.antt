@@ -2,9 +2,9 @@
 use mathlib.Core.Path.{refl}
 use borrow.Author.Needs.{needs}
 use borrow.Author.Tests.{eq-eqb, ne-eqb}
-use Rattle.plans.proofs.Chooseable.{same-named}
-use Rattle.plans.proofs.choosing.qualifies.Statement.{statement}
-use Rattle.plans.proofs.choosing.qualifies.Tie as tie
+use Rattle.choosing.proofs.Chooseable.{same-named}
+use Rattle.choosing.proofs.choosing.qualifies.Statement.{statement}
+use Rattle.choosing.proofs.choosing.qualifies.Tie as tie
 
 returns : tie.Need-returns
 returns c = rw (eq-eqb _ _ (c .if1 .taken)) refl

@@ -6,7 +6,7 @@ ghost use Rattle.model.specs.Planner.{chooseTable, chosenRows};
 ghost use Rattle.model.specs.Store.{decoded};
 ghost use Rattle.catalog.specs.Lookups.{Validated};
 ghost use Rattle.patterns.specs.Members.{patternIn, TableOf, PatternHolds};
-ghost use Rattle.plans.specs.Choices.{qualifiesBy, chooseableTable};
+ghost use Rattle.choosing.specs.Choices.{qualifiesBy, chooseableTable};
 use catalog::lookup::semi_join_rows;
 use catalog::lookup::table_rows;
 use catalog::lookup::threshold;

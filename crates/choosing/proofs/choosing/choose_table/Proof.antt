@@ -8,9 +8,9 @@ use Rattle.model.specs.Store.{decoded}
 use Rattle.catalog.proofs.Lookups.{validated-site}
 use Rattle.patterns.specs.Members.{patternIn}
 use Rattle.patterns.proofs.MemberLaws.{pattern-length}
-use Rattle.plans.proofs.Chooseable.{full-rows, BestTo, best-none, best-all, best-better, best-kept, best-closed}
-use Rattle.plans.proofs.choosing.choose_table.Statement.{statement}
-use Rattle.plans.proofs.choosing.choose_table.Tie as tie
+use Rattle.choosing.proofs.Chooseable.{full-rows, BestTo, best-none, best-all, best-better, best-kept, best-closed}
+use Rattle.choosing.proofs.choosing.choose_table.Statement.{statement}
+use Rattle.choosing.proofs.choosing.choose_table.Tie as tie
 
 abbrev Inv-loop : tie.InvT-loop
 Inv-loop w i pattern a number₀ fewest₀ c₀ c-end number fewest c = (c ≤ c-end) × BestTo (decoded w) (patternIn pattern) i c number fewest

@@ -28,9 +28,9 @@ use Rattle.patterns.specs.Members.{memberAt, patternIn, TableOf, PatternCells, 
 use Rattle.patterns.specs.declared.pattern.Member.{Member}
 use Rattle.patterns.specs.declared.pattern.Pattern.{Pattern as Members}
 use Rattle.patterns.proofs.MemberLaws.{pattern-length, triple-member}
-use Rattle.plans.specs.Choices.{qualifiesBy, chooseableTable}
-use Rattle.plans.specs.declared.choosing.Chooseable.{Chooseable}
-use Rattle.plans.specs.declared.choosing.Chooseable.the-variants.{Rows, Nothing}
+use Rattle.choosing.specs.Choices.{qualifiesBy, chooseableTable}
+use Rattle.choosing.specs.declared.choosing.Chooseable.{Chooseable}
+use Rattle.choosing.specs.declared.choosing.Chooseable.the-variants.{Rows, Nothing}
 
 -- ---- the tables of a proper site
 

@@ -12,8 +12,8 @@ use Rattle.model.specs.Pattern.{Pattern, positions, tripleAt, positionAt, sameV
 use Rattle.model.specs.Planner.{chooseTable, chosenRows, isFixed}
 use Rattle.model.specs.declared.pattern.TriplePattern.{TriplePattern}
 use Rattle.patterns.specs.declared.pattern.Member.{Member}
-use Rattle.plans.specs.declared.choosing.Chooseable.{Chooseable}
-use Rattle.plans.specs.declared.choosing.Chooseable.the-variants.{Rows, Nothing}
+use Rattle.choosing.specs.declared.choosing.Chooseable.{Chooseable}
+use Rattle.choosing.specs.declared.choosing.Chooseable.the-variants.{Rows, Nothing}
 
 -- kind k of q at place i against r at place j: the named positions hold the same variable
 abbrev pub qualifiesBy : TriplePattern → ℕ → TriplePattern → ℕ → ℕ → Bool

@@ -4,9 +4,9 @@ use native.Mathlib.Omega.{arith}
 use mathlib.Core.Path.{_≡_, refl, sym, ap, _∙_}
 use borrow.Author.Needs.{needs}
 use Rattle.model.specs.Plan.{mayChoose}
-use Rattle.plans.proofs.Chooseable.{past-pattern, choice-open, choice-closed}
-use Rattle.plans.proofs.choosing.may_choose.Statement.{statement}
-use Rattle.plans.proofs.choosing.may_choose.Tie as tie
+use Rattle.choosing.proofs.Chooseable.{past-pattern, choice-open, choice-closed}
+use Rattle.choosing.proofs.choosing.may_choose.Statement.{statement}
+use Rattle.choosing.proofs.choosing.may_choose.Tie as tie
 
 returns : tie.Need-returns
 unfolding mayChoose

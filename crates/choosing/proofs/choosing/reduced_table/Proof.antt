@@ -4,12 +4,12 @@ use mathlib.Core.Bool.{Bool, cond}
 use borrow.Author.Needs.{needs}
 use borrow.Author.Tests.{not-true, not-false}
 use Rattle.model.specs.Store.{decoded}
-use Rattle.plans.specs.Choices.{chooseableTable}
-use Rattle.plans.specs.declared.choosing.Chooseable.the-variants.{Rows, Nothing}
+use Rattle.choosing.specs.Choices.{chooseableTable}
+use Rattle.choosing.specs.declared.choosing.Chooseable.the-variants.{Rows, Nothing}
 use Rattle.catalog.proofs.Lookups.{validated-threshold, validated-site}
-use Rattle.plans.proofs.Chooseable.{table-few, left-few, open-by}
-use Rattle.plans.proofs.choosing.reduced_table.Statement.{statement}
-use Rattle.plans.proofs.choosing.reduced_table.Tie as tie
+use Rattle.choosing.proofs.Chooseable.{table-few, left-few, open-by}
+use Rattle.choosing.proofs.choosing.reduced_table.Statement.{statement}
+use Rattle.choosing.proofs.choosing.reduced_table.Tie as tie
 
 qualifies-requires : tie.Need-qualifies-requires
 qualifies-requires c κs = search needs
