@@ -17,8 +17,8 @@ use Rattle.model.proofs.Membership.{at-place, place-of, from-all, into-all}
 use Rattle.tables.specs.Columns.{columnOf, columnNumber}
 use Rattle.tables.specs.SiteWords.{siteIn, ImageOf, reducedAt}
 use Rattle.tables.proofs.Images.{entries-inside}
-use Rattle.tables.proofs.Proper.{word-passes}
 use Rattle.tables.proofs.Entries.{place-below, operands-of}
+use Rattle.row_order.proofs.Proper.{word-passes}
 use Rattle.statistics.specs.Ranges.{rangeAt, AllMeasured, apart}
 use Rattle.statistics.proofs.ColumnRanges.{none-left}
 use Rattle.statistics.proofs.ComparedColumns.{number-small, column-of-number}

@@ -11,13 +11,13 @@ ghost use Rattle.tables.specs.SiteWords.{declaredIn, declaredRows};
 ghost use Rattle.site_reading.specs.Image.{imageWords, TakenAs, DeclaredIn, SiteReadAs};
 use numbers::number::Number;
 use numbers::number::read_number;
+use row_order::order::row_before;
 use tables::layout::put_table_entry;
 use tables::layout::rows_start;
 use tables::layout::table_entry;
 use tables::limits::MOST_PREDICATES;
 use tables::limits::MOST_ROWS;
 use tables::limits::MOST_TERM;
-use tables::row_order::row_before;
 
 // How far bytes were taken, or the refusal's number.
 enum Taken {

@@ -7,11 +7,11 @@ ghost use Rattle.model.specs.Site.{mostPredicates, rowsProper};
 ghost use Rattle.model.specs.Store.{rowsStart};
 ghost use Rattle.tables.specs.SiteWords.{declaredRows, entriesProper, siteIn};
 ghost use Rattle.site_validation.specs.declared.entries.Extent.the-variants.{Ends, Invalid};
+use row_order::order::rows_proper;
 use tables::layout::rows_start;
 use tables::layout::table_entry;
 use tables::limits::MOST_ROWS;
 use tables::limits::MOST_TERM;
-use tables::row_order::rows_proper;
 
 // Where words that are as they should be end, or that they are not.
 pub enum Extent {

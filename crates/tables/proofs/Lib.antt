@@ -1,5 +1,4 @@
 pub mod KindColumns
-pub mod Proper
 pub mod Partners
 pub mod Images
 pub mod Entries

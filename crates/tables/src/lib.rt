@@ -1,8 +1,6 @@
-// Rows, the layout of a store and the operands of its semi-joins, in words.
-pub mod bounds;
+// The layout of a store and the operands of its semi-joins, in words.
 pub mod copying;
 pub mod kinds;
 pub mod layout;
 pub mod limits;
 pub mod operands;
-pub mod row_order;

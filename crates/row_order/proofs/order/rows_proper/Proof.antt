@@ -4,9 +4,9 @@ use native.Mathlib.Omega.{arith}
 use mathlib.Core.Path.{refl, sym, _∙_}
 use lib.ListN.{length, drop, length-drop}
 use borrow.Author.Needs.{needs}
-use Rattle.tables.proofs.Proper.{proper-rows}
-use Rattle.tables.proofs.row_order.rows_proper.Statement.{statement}
-use Rattle.tables.proofs.row_order.rows_proper.Tie as tie
+use Rattle.row_order.proofs.Proper.{proper-rows}
+use Rattle.row_order.proofs.order.rows_proper.Statement.{statement}
+use Rattle.row_order.proofs.order.rows_proper.Tie as tie
 
 inside : (s : tie.Start) → 2 * s .args .n ≤ length (drop (s .args .start) (s .args .w .now))
 inside s = omega (arith, s .pre, length-drop (s .args .start) (s .args .w .now))

@@ -1,7 +1,7 @@
 -- Each way out of the test is a row of `rowBefore`'s cases.
 use borrow.Author.Tests.{lt-ltb, le-ltb, eq-eqb, ne-eqb}
-use Rattle.tables.proofs.row_order.row_before.Statement.{statement}
-use Rattle.tables.proofs.row_order.row_before.Tie as tie
+use Rattle.row_order.proofs.order.row_before.Statement.{statement}
+use Rattle.row_order.proofs.order.row_before.Tie as tie
 
 returns : tie.Need-returns
 returns c = simp (lt-ltb _ _ (c .if1 .taken))

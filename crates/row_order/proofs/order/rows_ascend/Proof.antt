@@ -12,9 +12,9 @@ use Rattle.model.specs.Numbers.{mostTerm, isTerm}
 use Rattle.model.specs.Site.{rowBefore}
 use Rattle.model.specs.Store.{rowsIn}
 use Rattle.model.proofs.Rows.{rows-at}
-use Rattle.tables.proofs.Proper.{row-more, word-passes, sum-before, sum-not-before}
-use Rattle.tables.proofs.row_order.rows_ascend.Statement.{statement}
-use Rattle.tables.proofs.row_order.rows_ascend.Tie as tie
+use Rattle.row_order.proofs.Proper.{row-more, word-passes, sum-before, sum-not-before}
+use Rattle.row_order.proofs.order.rows_ascend.Statement.{statement}
+use Rattle.row_order.proofs.order.rows_ascend.Tie as tie
 
 abbrev Inv-loop : tie.InvT-loop
 Inv-loop w start n ascending₀ i₀ ascending i = (0 < i) × (i ≤ n) × (ascending ≡ ascends rowBefore (rowsIn i (drop start w)))

@@ -6,8 +6,8 @@ use mathlib.Core.Bool.{Bool, true, false, cond}
 use lib.Dec.{leb}
 use borrow.Author.Needs.{needs}
 use borrow.Author.Tests.{leb-true, leb-false}
-use Rattle.tables.proofs.row_order.at_least.Statement.{statement}
-use Rattle.tables.proofs.row_order.at_least.Tie as tie
+use Rattle.row_order.proofs.order.at_least.Statement.{statement}
+use Rattle.row_order.proofs.order.at_least.Tie as tie
 
 -- a number that is 1 in one case and 0 in the other
 by-cases : (a b n : ℕ) → (b ≤ a → n ≡ 1) → (a < b → n ≡ 0) → n ≡ cond (leb b a) 1 0

@@ -8,7 +8,7 @@ ghost use Rattle.model.specs.Numbers.{mostTerm, isTerm};
 ghost use Rattle.model.specs.Site.{rowBefore, rowsProper};
 ghost use Rattle.model.specs.Store.{rowsIn};
 use crate::bounds::all_at_most;
-use crate::limits::MOST_TERM;
+use tables::limits::MOST_TERM;
 
 // The row (s, o) comes before the row (t, p).
 pub fn row_before(s: u32, o: u32, t: u32, p: u32) -> bool

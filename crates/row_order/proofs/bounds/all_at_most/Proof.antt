@@ -9,9 +9,9 @@ use lib.Dec.{leb}
 use borrow.Author.Needs.{needs}
 use borrow.Author.Tests.{le-leb, lt-leb}
 use Rattle.model.specs.Lists.{all}
-use Rattle.tables.proofs.Proper.{word-more}
-use Rattle.tables.proofs.bounds.all_at_most.Statement.{statement}
-use Rattle.tables.proofs.bounds.all_at_most.Tie as tie
+use Rattle.row_order.proofs.Proper.{word-more}
+use Rattle.row_order.proofs.bounds.all_at_most.Statement.{statement}
+use Rattle.row_order.proofs.bounds.all_at_most.Tie as tie
 
 abbrev Inv-loop : tie.InvT-loop
 Inv-loop w start n most within₀ i₀ within i = (i ≤ n) × (within ≡ all (λ x. leb x most) (take i (drop start w)))
