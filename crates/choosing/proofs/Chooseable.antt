@@ -24,10 +24,10 @@ use Rattle.model.proofs.Below.{below-last}
 use Rattle.model.proofs.Partition.{proper, vp-table}
 use Rattle.model.proofs.Places.{qualifying}
 use Rattle.tables.proofs.Entries.{table-fewer}
-use Rattle.patterns.specs.Members.{memberAt, patternIn, TableOf, PatternCells, PatternHolds}
-use Rattle.patterns.specs.declared.pattern.Member.{Member}
-use Rattle.patterns.specs.declared.pattern.Pattern.{Pattern as Members}
-use Rattle.patterns.proofs.MemberLaws.{pattern-length, triple-member}
+use Rattle.positions.specs.Members.{memberAt, patternIn, TableOf, PatternCells, PatternHolds}
+use Rattle.positions.specs.declared.pattern.Member.{Member}
+use Rattle.positions.specs.declared.pattern.Pattern.{Pattern as Members}
+use Rattle.positions.proofs.MemberLaws.{pattern-length, triple-member}
 use Rattle.choosing.specs.Choices.{qualifiesBy, chooseableTable}
 use Rattle.choosing.specs.declared.choosing.Chooseable.{Chooseable}
 use Rattle.choosing.specs.declared.choosing.Chooseable.the-variants.{Rows, Nothing}

@@ -11,7 +11,7 @@ use Rattle.model.specs.Store.{Store}
 use Rattle.model.specs.Pattern.{Pattern, positions, tripleAt, positionAt, sameVariable, predicateTable}
 use Rattle.model.specs.Planner.{chooseTable, chosenRows, isFixed}
 use Rattle.model.specs.declared.pattern.TriplePattern.{TriplePattern}
-use Rattle.patterns.specs.declared.pattern.Member.{Member}
+use Rattle.positions.specs.declared.pattern.Member.{Member}
 use Rattle.choosing.specs.declared.choosing.Chooseable.{Chooseable}
 use Rattle.choosing.specs.declared.choosing.Chooseable.the-variants.{Rows, Nothing}
 

@@ -10,10 +10,10 @@ use Rattle.model.specs.PatternFile.{readPattern}
 use Rattle.model.specs.Calls.{either, Check, checkOf, checked}
 use Rattle.model.proofs.Calls.{check-accepted, check-store}
 use Rattle.catalog.specs.Lookups.{Validated}
-use Rattle.patterns.specs.Members.{patternIn, PatternHolds, EndsHold}
+use Rattle.positions.specs.Members.{patternIn, PatternHolds, EndsHold}
 use Rattle.patterns.specs.Replies.{PatternReadAs}
 use Rattle.patterns.specs.declared.pattern_reader.PatternRead.{PatternRead}
-use Rattle.patterns.proofs.ReplyLaws.{reply-refused, reply-given, either-refused, either-gives}
+use Rattle.positions.proofs.ReplyLaws.{reply-refused, reply-given, either-refused, either-gives}
 use Rattle.closing.specs.Checks.{CheckGiven, CheckedAs}
 
 -- the pattern that was read in a store gives the check

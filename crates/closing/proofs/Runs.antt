@@ -10,9 +10,9 @@ use Rattle.model.specs.PlanFile.{readPlan}
 use Rattle.model.specs.Solutions.{solutions}
 use Rattle.model.specs.Calls.{outcome, unaltered, planNumbers, checked, noneByCounts, rowsOutcome, run}
 use Rattle.model.specs.declared.answer.Answer.the-variants.{None}
-use Rattle.patterns.specs.Members.{patternIn}
+use Rattle.positions.specs.Members.{patternIn}
 use Rattle.patterns.specs.declared.pattern_reader.PatternRead.{PatternRead}
-use Rattle.patterns.proofs.ReplyLaws.{reply-refused, reply-given, either-refused, either-gives}
+use Rattle.positions.proofs.ReplyLaws.{reply-refused, reply-given, either-refused, either-gives}
 use Rattle.plans.specs.Replies.{PlanReadAs}
 use Rattle.plans.specs.declared.plan_reader.PlanRead.{PlanRead}
 use Rattle.closing.specs.Checks.{CheckedAs}

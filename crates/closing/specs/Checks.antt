@@ -6,8 +6,8 @@ use Rattle.model.specs.Reader.{Reply}
 use Rattle.model.specs.Store.{decoded}
 use Rattle.model.specs.Calls.{Check, checkOf}
 use Rattle.catalog.specs.Lookups.{Validated}
-use Rattle.patterns.specs.Members.{patternIn, PatternHolds, EndsHold}
-use Rattle.patterns.specs.Replies.{ReplyAs}
+use Rattle.positions.specs.Members.{patternIn, PatternHolds, EndsHold}
+use Rattle.positions.specs.Replies.{ReplyAs}
 use Rattle.patterns.specs.declared.pattern_reader.PatternRead.{PatternRead}
 
 -- the words are a store's, and the check is of it and of the pattern

@@ -23,14 +23,14 @@ use Rattle.model.proofs.Refusals.{pattern-refuses}
 use Rattle.numbers.specs.NumberAt.{numberAt}
 use Rattle.numbers.specs.declared.number.Number.the-variants.{Value, Bad}
 use Rattle.numbers.proofs.NumberReplies.{number-bad, number-value}
-use Rattle.patterns.specs.Members.{noMember, TableOf, EndsOf, EndsHold, PatternHolds}
+use Rattle.positions.specs.Members.{noMember, TableOf, EndsOf, EndsHold, PatternHolds}
 use Rattle.patterns.specs.Replies.{MemberReadAs, MemberReadOf, PatternReadAs}
-use Rattle.patterns.specs.declared.pattern.Member.{Member}
-use Rattle.patterns.specs.declared.pattern.Pattern.{Pattern as Members}
+use Rattle.positions.specs.declared.pattern.Member.{Member}
+use Rattle.positions.specs.declared.pattern.Pattern.{Pattern as Members}
 use Rattle.patterns.specs.declared.pattern_reader.MemberRead.{MemberRead}
 use Rattle.patterns.specs.declared.pattern_reader.MemberRead.the-variants.{Member as MemberGiven, Refused}
 use Rattle.patterns.specs.declared.pattern_reader.PatternRead.{PatternRead}
-use Rattle.patterns.proofs.MemberLaws.{pattern-length}
+use Rattle.positions.proofs.MemberLaws.{pattern-length}
 
 -- ---- a triple pattern as the code has it
 

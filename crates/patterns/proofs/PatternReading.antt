@@ -19,9 +19,10 @@ use Rattle.numbers.specs.NumberAt.{numberAt}
 use Rattle.numbers.specs.declared.number.Number.the-variants.{Value, Bad}
 use Rattle.numbers.proofs.NumberReplies.{number-bad, number-value}
 use Rattle.catalog.specs.Lookups.{placeOf}
-use Rattle.patterns.specs.Replies.{replied, MemberReadOf}
+use Rattle.positions.specs.Replies.{replied}
+use Rattle.patterns.specs.Replies.{MemberReadOf}
 use Rattle.catalog.specs.declared.lookup.Found.the-variants.{At, Absent}
-use Rattle.patterns.specs.declared.pattern.Member.{Member}
+use Rattle.positions.specs.declared.pattern.Member.{Member}
 use Rattle.patterns.specs.declared.pattern_reader.MemberRead.the-variants.{Member as MemberGiven, Refused}
 use Rattle.catalog.proofs.Lookups.{place-found, place-absent}
 

@@ -1,23 +1,19 @@
--- What was read of a check, as the code has it.
-use Prim.Native.Nat.{ℕ, zero, suc, _<_}
+-- What was read of a pattern, as the code has it.
+use Prim.Native.Nat.{ℕ}
 use mathlib.Core.Path.{_≡_}
 use mathlib.Core.List.{List}
 use lib.ListN.{drop}
-use Rattle.model.specs.Reader.{Reply, refused, gives, Reader}
+use Rattle.model.specs.Reader.{Reply, refused, gives}
 use Rattle.model.specs.Site.{Site}
 use Rattle.model.specs.Pattern.{Pattern, positions, variables, width}
 use Rattle.model.specs.PatternFile.{triplePattern}
 use Rattle.model.specs.declared.pattern.TriplePattern.{TriplePattern}
-use Rattle.patterns.specs.Members.{patternIn, TableOf, EndsOf, EndsHold, PatternHolds}
-use Rattle.patterns.specs.declared.pattern.Member.{Member}
+use Rattle.positions.specs.Members.{patternIn, TableOf, EndsOf, EndsHold, PatternHolds}
+use Rattle.positions.specs.Replies.{ReplyAs}
+use Rattle.positions.specs.declared.pattern.Member.{Member}
 use Rattle.patterns.specs.declared.pattern_reader.MemberRead.{MemberRead}
 use Rattle.patterns.specs.declared.pattern_reader.MemberRead.the-variants.{Member as MemberGiven, Refused}
 use Rattle.patterns.specs.declared.pattern_reader.PatternRead.{PatternRead}
-
--- a question that was asked: 0 where it passed, or the refusal's number
-abbrev pub replied : ℕ → Reader (Unit {0})
-replied zero = λ bytes. gives (tt, bytes)
-replied (suc n) = λ bytes. refused (suc n)
 
 -- a triple pattern, n variables before it
 abbrev pub MemberReadAs : Site → ℕ → Reply (TriplePattern × List ℕ) → List ℕ → MemberRead → Type 0
@@ -30,11 +26,6 @@ MemberReadAs site n (gives x) s r =
 -- the triple pattern at a place of the bytes, behind any that have n variables
 abbrev pub MemberReadOf : Site → ℕ → ℕ → List ℕ → MemberRead → Type 0
 MemberReadOf site n at s r = (done : Pattern) → width done ≡ n → MemberReadAs site n (triplePattern site done (drop at s)) s r
-
--- a reply by its number: that of a refusal, which is not 0, or 0 and what is given
-abbrev pub ReplyAs : {A : Type 0} → ℕ → (A → Type 0) → Reply A → Type 0
-ReplyAs number Given (refused n) = (number ≡ n) × (0 < n)
-ReplyAs number Given (gives a) = (number ≡ 0) × Given a
 
 abbrev pub PatternReadAs : Site → Reply Pattern → PatternRead → Type 0
 PatternReadAs site reply r =

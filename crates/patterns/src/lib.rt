@@ -1,4 +1,2 @@
-// The pattern of a check, its positions, and its reader: questions 11 to 17.
-pub mod pattern;
+// The reader of a pattern: questions 11 to 17.
 pub mod pattern_reader;
-pub mod positions;

@@ -17,9 +17,9 @@ use Rattle.model.proofs.Booleans.{not-both}
 use Rattle.model.proofs.Membership.{from-filter, into-filter, filter-all, into-any, from-any, any-append, filter-append, filter-same, filter-filter}
 use Rattle.model.proofs.Below.{from-below, into-below, below-last}
 use Rattle.model.proofs.Best.{best-last}
-use Rattle.patterns.specs.Members.{memberAt, patternIn}
-use Rattle.patterns.specs.declared.pattern.Pattern.{Pattern as Members}
-use Rattle.patterns.proofs.MemberLaws.{triple-member}
+use Rattle.positions.specs.Members.{memberAt, patternIn}
+use Rattle.positions.specs.declared.pattern.Pattern.{Pattern as Members}
+use Rattle.positions.proofs.MemberLaws.{triple-member}
 use Rattle.planning.specs.Flags.{remainingBy, someJoined, competitorsBy, beatsBy, pickBy}
 
 -- ---- lists

@@ -2,10 +2,10 @@ ghost use mathlib.Core.Path.{_≡_};
 ghost use Prim.Native.Nat.{_<_, _≤_};
 ghost use lib.ListN.{length};
 ghost use Rattle.model.specs.Pattern.{mostTriplePatterns};
-ghost use Rattle.patterns.specs.Members.{patternIn, PatternCells};
+ghost use Rattle.positions.specs.Members.{patternIn, PatternCells};
 ghost use Rattle.planning.specs.Flags.{MarkedWith, someJoined, beatsBy, pickBy};
-use patterns::pattern::Pattern;
-use patterns::positions::share_variable;
+use positions::pattern::Pattern;
+use positions::positions::share_variable;
 
 // Marks the places that share a variable with place i.
 pub fn mark_joined(pattern: Pattern, i: usize, joined: &mut [bool; 8])

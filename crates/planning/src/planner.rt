@@ -5,14 +5,14 @@ ghost use Rattle.model.specs.Planner.{planned};
 ghost use Rattle.model.specs.Calls.{planNumbers};
 ghost use Rattle.model.specs.Store.{decoded};
 ghost use Rattle.catalog.specs.Lookups.{Validated};
-ghost use Rattle.patterns.specs.Members.{patternIn, PatternHolds};
+ghost use Rattle.positions.specs.Members.{patternIn, PatternHolds};
 ghost use Rattle.choosing.specs.Choices.{TablesChosen};
 use crate::ordering::mark_joined;
 use crate::ordering::pick;
 use choosing::choosing::choose_table;
 use model::plan::Plan;
-use patterns::pattern::Pattern;
-use patterns::positions::term_count;
+use positions::pattern::Pattern;
+use positions::positions::term_count;
 
 // For each place: the choice of its table, the rows of that table, and the terms among its positions.
 fn choose_tables(

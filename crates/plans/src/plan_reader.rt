@@ -2,13 +2,13 @@ ghost use mathlib.Core.Path.{_≡_};
 ghost use Rattle.model.specs.PlanFile.{readPlan};
 ghost use Rattle.model.specs.Store.{decoded};
 ghost use Rattle.catalog.specs.Lookups.{Validated};
-ghost use Rattle.patterns.specs.Members.{patternIn, PatternHolds};
+ghost use Rattle.positions.specs.Members.{patternIn, PatternHolds};
 ghost use Rattle.plans.specs.Replies.{PlanReadAs};
 use choosing::choosing::may_choose;
 use model::plan::Plan;
 use numbers::number::Number;
 use numbers::number::read_number;
-use patterns::pattern::Pattern;
+use positions::pattern::Pattern;
 
 // What was read of a plan's file: 0 and the plan, or the refusal's number.
 pub struct PlanRead {

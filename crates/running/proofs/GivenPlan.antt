@@ -19,7 +19,7 @@ use Rattle.model.proofs.Booleans.{and-cases}
 use Rattle.model.proofs.Blocks.{Block, element-block, longer-block, block-at, equal-block, getD-block, head-block}
 use Rattle.model.proofs.Patterns.{pattern-limit}
 use Rattle.model.proofs.PlanFile.{plan-file}
-use Rattle.patterns.proofs.ReplyLaws.{reply-given}
+use Rattle.positions.proofs.ReplyLaws.{reply-given}
 use Rattle.plans.specs.Replies.{PlanReadAs}
 use Rattle.plans.specs.declared.plan_reader.PlanRead.{PlanRead}
 use Rattle.scanning.specs.PhysicalPlan.{stepsOf}

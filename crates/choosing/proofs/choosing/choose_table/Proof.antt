@@ -6,8 +6,8 @@ use mathlib.Core.Logic.{⊎-elim}
 use borrow.Author.Needs.{needs}
 use Rattle.model.specs.Store.{decoded}
 use Rattle.catalog.proofs.Lookups.{validated-site}
-use Rattle.patterns.specs.Members.{patternIn}
-use Rattle.patterns.proofs.MemberLaws.{pattern-length}
+use Rattle.positions.specs.Members.{patternIn}
+use Rattle.positions.proofs.MemberLaws.{pattern-length}
 use Rattle.choosing.proofs.Chooseable.{full-rows, BestTo, best-none, best-all, best-better, best-kept, best-closed}
 use Rattle.choosing.proofs.choosing.choose_table.Statement.{statement}
 use Rattle.choosing.proofs.choosing.choose_table.Tie as tie

@@ -6,7 +6,7 @@ use Rattle.model.specs.Store.{decoded}
 use Rattle.model.specs.Pattern.{isAccepted}
 use Rattle.model.specs.Calls.{run}
 use Rattle.catalog.specs.Lookups.{Validated}
-use Rattle.patterns.specs.Members.{patternIn, PatternHolds, EndsHold}
+use Rattle.positions.specs.Members.{patternIn, PatternHolds, EndsHold}
 use Rattle.running.proofs.GivenPlan.{given-proper}
 use Rattle.closing.proofs.Checks.{after-refusal, check-given}
 use Rattle.closing.proofs.Runs.{run-plan-refused, run-given}

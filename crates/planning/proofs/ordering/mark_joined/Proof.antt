@@ -3,7 +3,7 @@ use Prim.Native.Nat.{_≤_, _<_, _-_}
 use native.Mathlib.Omega.{arith}
 use mathlib.Core.Path.{sym, _∙_}
 use mathlib.Core.Logic.{⊎-elim}
-use Rattle.patterns.specs.Members.{patternIn}
+use Rattle.positions.specs.Members.{patternIn}
 use Rattle.planning.proofs.Picking.{shared-by, MarkedBelow, none-marked, mark-more, mark-none}
 use Rattle.planning.proofs.ordering.mark_joined.Statement.{statement}
 use Rattle.planning.proofs.ordering.mark_joined.Tie as tie

@@ -8,8 +8,8 @@ use Rattle.model.specs.Lists.{filter}
 use Rattle.model.specs.Store.{decoded}
 use Rattle.model.specs.Pattern.{positions}
 use Rattle.model.specs.Planner.{isFixed}
-use Rattle.patterns.specs.Members.{patternIn}
-use Rattle.patterns.proofs.MemberLaws.{triple-member}
+use Rattle.positions.specs.Members.{patternIn}
+use Rattle.positions.proofs.MemberLaws.{triple-member}
 use Rattle.choosing.specs.Choices.{TablesChosen}
 use Rattle.planning.proofs.OrderSteps.{none-chosen, chosen-more}
 use Rattle.planning.proofs.planner.choose_tables.Statement.{statement}

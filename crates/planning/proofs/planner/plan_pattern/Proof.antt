@@ -14,9 +14,9 @@ use Rattle.model.specs.Pattern.{mostTriplePatterns}
 use Rattle.model.specs.Planner.{isJoined}
 use Rattle.model.specs.Calls.{planNumbers}
 use Rattle.model.proofs.Choosing.{chosen-table}
-use Rattle.patterns.specs.Members.{patternIn}
-use Rattle.patterns.specs.declared.pattern.Pattern.{Pattern as Members}
-use Rattle.patterns.proofs.MemberLaws.{pattern-length}
+use Rattle.positions.specs.Members.{patternIn}
+use Rattle.positions.specs.declared.pattern.Pattern.{Pattern as Members}
+use Rattle.positions.proofs.MemberLaws.{pattern-length}
 use Rattle.plans.proofs.PlanReading.{place-noted}
 use Rattle.model.proofs.Places.{choice-small}
 use Rattle.planning.proofs.OrderSteps.{joins-more, Begun, stepAt, begun-none, begun-more, begun-inside, place-written, plan-written}

@@ -20,9 +20,9 @@ use Rattle.model.proofs.Places.{choice-small}
 use Rattle.model.proofs.Readers.{PartRead, none-read, all-read, next-refused, next-read}
 use Rattle.numbers.specs.NumberAt.{numberAt}
 use Rattle.numbers.specs.declared.number.Number.the-variants.{Value}
-use Rattle.patterns.specs.Members.{patternIn}
-use Rattle.patterns.specs.declared.pattern.Pattern.{Pattern as Members}
-use Rattle.patterns.proofs.MemberLaws.{pattern-length}
+use Rattle.positions.specs.Members.{patternIn}
+use Rattle.positions.specs.declared.pattern.Pattern.{Pattern as Members}
+use Rattle.positions.proofs.MemberLaws.{pattern-length}
 use Rattle.plans.proofs.PlanReading.{isOpen, place-absent, place-taken, place-open, no-place, place-refused, no-choice, choice-refused, step-given}
 use Rattle.plans.proofs.PlanReading.{steps-refused, bytes-left, plan-given, place-noted, step-written}
 use Rattle.plans.proofs.plan_reader.read_plan.Statement.{statement}

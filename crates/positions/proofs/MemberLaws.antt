@@ -4,9 +4,9 @@ use mathlib.Core.Path.{_≡_, ap, _∙_}
 use lib.ListN.{length, take, length-map, List·getD-map}
 use lib.Seq.{length-take-le, getD-take}
 use Rattle.model.specs.Pattern.{tripleAt}
-use Rattle.patterns.specs.Members.{noMember, memberAt, patternIn, PatternCells}
-use Rattle.patterns.specs.declared.pattern.Member.{Member}
-use Rattle.patterns.specs.declared.pattern.Pattern.{Pattern as Members}
+use Rattle.positions.specs.Members.{noMember, memberAt, patternIn, PatternCells}
+use Rattle.positions.specs.declared.pattern.Member.{Member}
+use Rattle.positions.specs.declared.pattern.Pattern.{Pattern as Members}
 
 pub pattern-length : {pattern : Members} → PatternCells pattern → length (patternIn pattern) ≡ pattern .count
 pattern-length {pattern} cells =

@@ -7,8 +7,8 @@ use Rattle.model.specs.Site.{Site, tableAt}
 use Rattle.model.specs.Pattern.{Pattern, mostTriplePatterns, noTriplePattern, width}
 use Rattle.model.specs.PatternFile.{positionOf}
 use Rattle.model.specs.declared.pattern.Position.the-variants.{Term}
-use Rattle.patterns.specs.declared.pattern.Member.{Member}
-use Rattle.patterns.specs.declared.pattern.Pattern.{Pattern as Members}
+use Rattle.positions.specs.declared.pattern.Member.{Member}
+use Rattle.positions.specs.declared.pattern.Pattern.{Pattern as Members}
 
 abbrev pub noMember : Member
 noMember = record { triple = noTriplePattern; table = 0 }

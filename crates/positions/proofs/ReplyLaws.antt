@@ -4,7 +4,7 @@ use native.Mathlib.Omega.{arith}
 use mathlib.Core.Path.{_≡_, refl, sym, ap}
 use Rattle.model.specs.Reader.{Reply, refused, gives}
 use Rattle.model.specs.Calls.{either}
-use Rattle.patterns.specs.Replies.{ReplyAs}
+use Rattle.positions.specs.Replies.{ReplyAs}
 
 module _ {A : Type 0} (Given : A → Type 0) {number : ℕ} where
   pub reply-refused : (reply : Reply A) → ReplyAs number Given reply → (number ≡ 0 → ⊥) → reply ≡ refused number

@@ -1,7 +1,7 @@
 -- An even number is a term, an odd one a variable.
 use borrow.Author.Tests.{eq-eqb, ne-eqb}
-use Rattle.patterns.proofs.positions.position_of.Statement.{statement}
-use Rattle.patterns.proofs.positions.position_of.Tie as tie
+use Rattle.positions.proofs.positions.position_of.Statement.{statement}
+use Rattle.positions.proofs.positions.position_of.Tie as tie
 
 returns : tie.Need-returns
 returns c = simp (eq-eqb _ _ (c .if1 .taken))

@@ -13,8 +13,8 @@ use borrow.Author.Tests.{lt-leb, le-leb, lt-ltb}
 use Rattle.model.specs.Reader.{ask}
 use Rattle.model.specs.PatternFile.{askPosition}
 use borrow.Author.Needs.{needs}
-use Rattle.patterns.proofs.positions.position_refusal.Statement.{statement}
-use Rattle.patterns.proofs.positions.position_refusal.Tie as tie
+use Rattle.positions.proofs.positions.position_refusal.Statement.{statement}
+use Rattle.positions.proofs.positions.position_refusal.Tie as tie
 
 not-next : (met v : ℕ) → (mostVariables ≤ v) ⊎ (met < v) → isNext met v ≡ false
 not-next met v h =

@@ -4,8 +4,8 @@ use mathlib.Core.Path.{_≡_, refl}
 use Rattle.model.specs.Tables.{object}
 use Rattle.tables.specs.Columns.{columnOf}
 use borrow.Author.Needs.{needs}
-use Rattle.patterns.proofs.positions.position_at.Statement.{statement}
-use Rattle.patterns.proofs.positions.position_at.Tie as tie
+use Rattle.positions.proofs.positions.position_at.Statement.{statement}
+use Rattle.positions.proofs.positions.position_at.Tie as tie
 
 second : (column : ℕ) → (column ≡ 0 → ⊥) → columnOf column ≡ object
 second zero other = absurd (other refl)

@@ -8,7 +8,7 @@ ghost use Rattle.model.specs.PatternFile.{positionOf, askPosition};
 ghost use Rattle.model.specs.Planner.{shareVariable, isFixed};
 ghost use Rattle.model.specs.declared.pattern.Position.the-variants.{Var};
 ghost use Rattle.tables.specs.Columns.{columnOf};
-ghost use Rattle.patterns.specs.Replies.{replied};
+ghost use Rattle.positions.specs.Replies.{replied};
 use crate::pattern::MOST_VARIABLES;
 use model::pattern::Position;
 use model::pattern::TriplePattern;

@@ -1,7 +1,7 @@
 -- A term is no variable; a variable is compared with the other position.
 use borrow.Author.Needs.{needs}
-use Rattle.patterns.proofs.positions.same_variable.Statement.{statement}
-use Rattle.patterns.proofs.positions.same_variable.Tie as tie
+use Rattle.positions.proofs.positions.same_variable.Statement.{statement}
+use Rattle.positions.proofs.positions.same_variable.Tie as tie
 
 enum-told : tie.Need-enum-told
 enum-told c = search needs

@@ -1,8 +1,8 @@
 -- Two variables are the same by their numbers.
 use mathlib.Core.Path.{refl}
 use borrow.Author.Needs.{needs}
-use Rattle.patterns.proofs.positions.is_variable.Statement.{statement}
-use Rattle.patterns.proofs.positions.is_variable.Tie as tie
+use Rattle.positions.proofs.positions.is_variable.Statement.{statement}
+use Rattle.positions.proofs.positions.is_variable.Tie as tie
 
 enum-known-x : tie.Need-enum-known-x
 enum-known-x c = search needs

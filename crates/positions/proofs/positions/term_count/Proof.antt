@@ -9,8 +9,8 @@ use Rattle.model.specs.Planner.{isFixed}
 use Rattle.model.specs.declared.pattern.Position.{Position}
 use Rattle.model.specs.declared.pattern.Position.the-variants.{Term, Var}
 use borrow.Author.Needs.{needs}
-use Rattle.patterns.proofs.positions.term_count.Statement.{statement}
-use Rattle.patterns.proofs.positions.term_count.Tie as tie
+use Rattle.positions.proofs.positions.term_count.Statement.{statement}
+use Rattle.positions.proofs.positions.term_count.Tie as tie
 
 fixed-cons : (x : Position) (xs : List Position) → length (filter isFixed (x ∷ xs)) ≡ length (filter isFixed (x ∷ [])) + length (filter isFixed xs)
 fixed-cons (Term t) xs = omega arith

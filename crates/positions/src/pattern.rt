@@ -1,5 +1,5 @@
 ghost use mathlib.Core.Path.{_≡_};
-ghost use Rattle.patterns.specs.Members.{noMember};
+ghost use Rattle.positions.specs.Members.{noMember};
 use model::pattern::Position;
 use model::pattern::TriplePattern;
 

@@ -1,8 +1,8 @@
 -- The first that is true, or the last.
 use mathlib.Core.Path.{refl, sym}
 use mathlib.Core.Bool.{or-false}
-use Rattle.patterns.proofs.positions.any_of.Statement.{statement}
-use Rattle.patterns.proofs.positions.any_of.Tie as tie
+use Rattle.positions.proofs.positions.any_of.Statement.{statement}
+use Rattle.positions.proofs.positions.any_of.Tie as tie
 
 returns : tie.Need-returns
 returns c = rw (c .if1 .taken) refl

@@ -1,8 +1,8 @@
 -- One of the three positions.
 use mathlib.Core.Path.{refl, _∙_}
 use borrow.Author.Needs.{needs}
-use Rattle.patterns.proofs.positions.share_variable.Statement.{statement}
-use Rattle.patterns.proofs.positions.share_variable.Tie as tie
+use Rattle.positions.proofs.positions.share_variable.Statement.{statement}
+use Rattle.positions.proofs.positions.share_variable.Tie as tie
 
 has-variable-requires : tie.Need-has-variable-requires
 has-variable-requires c κs = search needs

@@ -1,8 +1,8 @@
 -- A variable leaves the count, or is one above it.
 use native.Mathlib.Omega.{arith}
 use borrow.Author.Needs.{needs}
-use Rattle.patterns.proofs.positions.variables_with.Statement.{statement}
-use Rattle.patterns.proofs.positions.variables_with.Tie as tie
+use Rattle.positions.proofs.positions.variables_with.Statement.{statement}
+use Rattle.positions.proofs.positions.variables_with.Tie as tie
 
 enum-told : tie.Need-enum-told
 enum-told c = search needs

@@ -1,8 +1,8 @@
 -- One of the three positions.
 use mathlib.Core.Path.{refl, _∙_}
 use borrow.Author.Needs.{needs}
-use Rattle.patterns.proofs.positions.has_variable.Statement.{statement}
-use Rattle.patterns.proofs.positions.has_variable.Tie as tie
+use Rattle.positions.proofs.positions.has_variable.Statement.{statement}
+use Rattle.positions.proofs.positions.has_variable.Tie as tie
 
 same-variable-requires : tie.Need-same-variable-requires
 same-variable-requires c κs = search needs
