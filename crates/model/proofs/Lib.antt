@@ -49,6 +49,7 @@ pub mod AnswerCases
 pub mod ChainRows
 pub mod FittingRows
 pub mod Answers
+pub mod Decimals
 pub mod Screen
 pub mod StoreSize
 pub mod FileSizes

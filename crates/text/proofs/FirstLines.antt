@@ -9,7 +9,7 @@ use Rattle.model.specs.Text.{decimal, rowsText, widthText, refusedText, firstLi
 use Rattle.model.specs.declared.answer.Answer.{Answer}
 use Rattle.model.specs.declared.answer.Answer.the-variants.{Rows, None, Built, Refused}
 use Rattle.model.specs.declared.answer.Answer.the-variants.{Plan as PlanAnswer}
-use Rattle.text.proofs.Decimals.{decimal-length}
+use Rattle.model.proofs.Decimals.{decimal-length}
 use Rattle.text.proofs.Writing.{Written, written-none, written-put}
 
 -- its parts

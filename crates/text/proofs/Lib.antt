@@ -1,5 +1,4 @@
 -- Laws that the proofs of this crate cite.
-pub mod Decimals
 pub mod Writing
 pub mod Spaced
 pub mod FirstLines

@@ -7,7 +7,7 @@ use mathlib.Core.List.{List, [], _∷_, _++_, append-assoc}
 use lib.ListN.{length, getD, take, set, length-append, length-take}
 use lib.Seq.{take-suc, sets}
 use Rattle.model.specs.Text.{decimal, spaced}
-use Rattle.text.proofs.Decimals.{decimal-length}
+use Rattle.model.proofs.Decimals.{decimal-length}
 use Rattle.text.proofs.Writing.{Written, written-more}
 
 -- at most twenty digits each, and a space between

@@ -1,5 +1,6 @@
 -- The screen: all that the check program prints of a site's file and a check's.
-use Prim.Native.Nat.{ℕ, _*_, _≤_, _<_}
+use Prim.Native.Nat.{ℕ, _+_, _*_, _/_, _%_, _≤_, _<_}
+use native.Mathlib.Omega.{arith}
 use mathlib.Core.Path.{_≡_}
 use mathlib.Core.Bool.{true}
 use mathlib.Core.List.{List, [], _∷_, _++_}
@@ -17,6 +18,7 @@ use Rattle.model.specs.Chain.{chainThreshold, chainStoreWords, NoMatch}
 use Rattle.model.specs.Text.{rowLine, rowsText, widthText, noneText, refusedText, decimal, firstLine, printed, screen}
 use Rattle.model.specs.declared.answer.Answer.{Answer}
 use Rattle.model.specs.declared.answer.Answer.the-variants.{Rows, None, Refused}
+use Rattle.model.proofs.Decimals.{decimal-digit, decimal-more}
 use Rattle.model.proofs.Screen.{none-told, rows-told, refusal-told, screen-none, screen-no-match, screen-rows, screen-too-many, screen-absent, screen-absent-check}
 
 -- ==== The rule before the demands, for whoever reads the screen. 'none' may be said only of a site that was read whole and only where
@@ -60,6 +62,15 @@ screen-shows-solutions file check site pattern whole fits read = (
   screen-rows file check site pattern whole fits read,
   screen-too-many file check site pattern whole fits read,
 )
+
+-- in decimal: below ten one digit, from ten on the digits of the tenth and then the last; of every 64-bit number
+abbrev pub Decimal-Is-Exact : Type 0
+Decimal-Is-Exact =
+    ((n : ℕ) → n < 10 → decimal n ≡ (48 + n) ∷ [])
+    × ((n : ℕ) → 10 ≤ n → n < 18446744073709551616 → decimal n ≡ decimal (n / 10) ++ (48 + n % 10) ∷ [])
+
+pub decimal-is-exact : Decimal-Is-Exact
+decimal-is-exact = (decimal-digit, λ n more small. decimal-more n more (omega (arith, small)))
 
 -- the three kinds of output differ: what is printed tells which answer it is
 abbrev pub Screen-Tells-Answer : Type 0

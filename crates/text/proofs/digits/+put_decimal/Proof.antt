@@ -6,7 +6,7 @@ use lib.ListN.{length}
 use borrow.Author.Needs.{needs}
 use Rattle.model.specs.Text.{decimal}
 use Rattle.model.proofs.Setting.{sets-append}
-use Rattle.text.proofs.Decimals.{decimal-digit, decimal-more, decimal-longer}
+use Rattle.model.proofs.Decimals.{decimal-digit, decimal-more, decimal-longer}
 use borrow.Fn.Kinds.{In}
 use borrow.Fn.PlainCycle.{Measures, is, falls, and}
 use Rattle.text.proofs.digits.put_decimal.Reads as put-decimal
