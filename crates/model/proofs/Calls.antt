@@ -1,8 +1,8 @@
 -- A call goes from question to question; and None from the counts is right.
-use Prim.Native.Nat.{ℕ, _≤_}
+use Prim.Native.Nat.{ℕ, _≤_, _<_}
 use native.Mathlib.Omega.{arith}
 use mathlib.Core.Path.{_≡_, refl}
-use mathlib.Core.Logic.{_⊎_, inl, inr}
+use mathlib.Core.Logic.{_⊎_, inl, inr, ⊎-elim}
 use mathlib.Core.Bool.{Bool, true, false, cond, _&&_, _||_}
 use mathlib.Core.Option.{Option, none, some}
 use mathlib.Core.List.{List, []}
@@ -20,12 +20,12 @@ use Rattle.model.specs.Plan.{qualifies, reducedTable}
 use Rattle.model.specs.PlanFile.{readPlan}
 use Rattle.model.specs.Solutions.{solutions}
 use Rattle.model.specs.Answers.{Between, Accepted}
-use Rattle.model.specs.Calls.{Outcome, outcome, either, question, storeReply, unaltered, Check, checkOf, checked, emptyAgainst, noneByCounts, rowsOutcome, run}
+use Rattle.model.specs.Calls.{Outcome, outcome, either, question, storeReply, unaltered, Check, checkOf, checked, emptyAgainst, noneByCounts, EmptyFor, rowsOutcome, run}
 use Rattle.model.specs.declared.answer.Answer.the-variants.{None}
-use Rattle.model.proofs.Booleans.{and-cases, or-cases}
-use Rattle.model.proofs.Membership.{no-element, from-any}
-use Rattle.model.proofs.Below.{from-below}
-use Rattle.model.proofs.Places.{empty-reduced, empty-full}
+use Rattle.model.proofs.Booleans.{and-cases, and-make, or-cases, or-right}
+use Rattle.model.proofs.Membership.{no-element, into-any, from-any}
+use Rattle.model.proofs.Below.{from-below, into-below}
+use Rattle.model.proofs.Places.{qualifying, empty-reduced, empty-full}
 use Rattle.model.proofs.Stores.{store-sound}
 use Rattle.model.proofs.PatternFile.{pattern-accepted}
 use Rattle.model.proofs.Refusals.{pattern-refuses, plan-refuses}
@@ -36,23 +36,42 @@ use Rattle.model.proofs.Refusals.{pattern-refuses, plan-refuses}
 counted-empty : (rows : List Row) → eqb (length rows) 0 ≡ true → rows ≡ []
 counted-empty rows e = no-element rows (eqb-true (length rows) 0 e)
 
-pub none-by-counts : (site : Site) (pattern : Pattern) → isAccepted site pattern ≡ true → noneByCounts site pattern ≡ true → solutions site pattern ≡ []
-unfolding noneByCounts
-none-by-counts site pattern accepted h =
-    let i = from-any (λ i. eqb (length (fullTable site pattern i)) 0 || emptyAgainst site pattern i) (places pattern) h in
-    go (i .0) (i .1) (or-cases (eqb (length (fullTable site pattern (i .0))) 0) (emptyAgainst site pattern (i .0)) (i .2))
-  where
-    empty : ℕ → ℕ → Kind → Bool
-    empty i j k = qualifies pattern i j k && eqb (length (reducedTable site pattern i j k)) 0
+module _ (site : Site) (pattern : Pattern) where
+  abbrev empty : ℕ → ℕ → Kind → Bool
+  empty i j k = qualifies pattern i j k && eqb (length (reducedTable site pattern i j k)) 0
 
-    go : (i : ℕ) → i ∈ places pattern → (eqb (length (fullTable site pattern i)) 0 ≡ true) ⊎ (emptyAgainst site pattern i ≡ true)
-        → solutions site pattern ≡ []
-    go i m (inl e) = empty-full site pattern accepted i (from-below (length pattern) m) (counted-empty (fullTable site pattern i) e)
-    go i m (inr e) =
-        let j = from-any (λ j. any (empty i j) kinds) (places pattern) e in
-        let k = from-any (empty i (j .0)) kinds (j .2) in
-        let c = and-cases (qualifies pattern i (j .0) (k .0)) (eqb (length (reducedTable site pattern i (j .0) (k .0))) 0) (k .2) in
-        empty-reduced site pattern accepted i (j .0) (k .0) (c .0) (counted-empty (reducedTable site pattern i (j .0) (k .0)) (c .1))
+  abbrev emptyFor : ℕ → Bool
+  emptyFor i = eqb (length (fullTable site pattern i)) 0 || emptyAgainst site pattern i
+
+  from-counts : (i : ℕ) → emptyFor i ≡ true → EmptyFor site pattern i
+  from-counts i e = go (or-cases (eqb (length (fullTable site pattern i)) 0) (emptyAgainst site pattern i) e)
+    where
+      go : (eqb (length (fullTable site pattern i)) 0 ≡ true) ⊎ (emptyAgainst site pattern i ≡ true) → EmptyFor site pattern i
+      go (inl e) = inl (counted-empty (fullTable site pattern i) e)
+      go (inr e) =
+          let (j, _, f) = from-any (λ j. any (empty i j) kinds) (places pattern) e in
+          let (k, m, g) = from-any (empty i j) kinds f in
+          let (q, n) = and-cases (qualifies pattern i j k) (eqb (length (reducedTable site pattern i j k)) 0) g in
+          inr (j, k, m, q, counted-empty (reducedTable site pattern i j k) n)
+
+  into-counts : (i : ℕ) → EmptyFor site pattern i → emptyFor i ≡ true
+  into-counts i (inl no-row) = rw no-row refl
+  into-counts i (inr (j, k, m, q, no-row)) =
+      let place = into-below (length pattern) (qualifying pattern i j k q .there) in
+      or-right (eqb (length (fullTable site pattern i)) 0) (into-any (λ j. any (empty i j) kinds) place (into-any (empty i j) m (and-make q (rw no-row refl))))
+
+  pub counted-none : noneByCounts site pattern ≡ true → (i : ℕ) × (i < length pattern) × EmptyFor site pattern i
+  unfolding noneByCounts
+  counted-none h = let (i, m, e) = from-any emptyFor (places pattern) h in (i, from-below (length pattern) m, from-counts i e)
+
+  pub none-counted : (i : ℕ) → i < length pattern → EmptyFor site pattern i → noneByCounts site pattern ≡ true
+  unfolding noneByCounts
+  none-counted i small e = into-any emptyFor (into-below (length pattern) small) (into-counts i e)
+
+  pub none-by-counts : isAccepted site pattern ≡ true → noneByCounts site pattern ≡ true → solutions site pattern ≡ []
+  none-by-counts accepted h =
+      let (i, small, e) = counted-none h in
+      ⊎-elim (empty-full site pattern accepted i small) (λ t. empty-reduced site pattern accepted i (t .0) (t .1) (t .3) (t .4)) e
 
 -- ---- from question to question
 

@@ -1,15 +1,17 @@
 -- What each call answers, and what the memory lent to it holds afterwards, for every input.
-use Prim.Native.Nat.{ℕ, _*_}
+use Prim.Native.Nat.{ℕ, _*_, _<_}
+use mathlib.Core.Path.{_≡_}
+use mathlib.Core.Logic.{_⊎_}
 use mathlib.Core.Bool.{Bool, true, false, cond, _&&_, _||_}
 use mathlib.Core.Option.{Option, none, some}
 use mathlib.Core.List.{List, [], _∷_, _++_}
 use lib.ListN.{length, take, drop, replicate}
 use lib.Dec.{eqb, leb}
-use Rattle.model.specs.Lists.{any, concatMap}
+use Rattle.model.specs.Lists.{_∈_, any, concatMap}
 use Rattle.model.specs.Reader.{Reply, refused, gives}
 use Rattle.model.specs.Site.{Site}
 use Rattle.model.specs.SiteFile.{readSite}
-use Rattle.model.specs.Tables.{kinds, mostThreshold}
+use Rattle.model.specs.Tables.{Kind, kinds, mostThreshold}
 use Rattle.model.specs.Store.{Store, storeOf, layout}
 use Rattle.model.specs.Pattern.{Pattern, mostTriplePatterns, width, places, fullTable}
 use Rattle.model.specs.PatternFile.{readPattern}
@@ -114,6 +116,12 @@ emptyAgainst site pattern i =
 -- such a table, or the VP table of a predicate named has a count of 0
 unfoldable pub noneByCounts : Site → Pattern → Bool
 noneByCounts site pattern = any (λ i. eqb (length (fullTable site pattern i)) 0 || emptyAgainst site pattern i) (places pattern)
+
+-- in words: the VP table of place i has no rows, or a table of one of the kinds that qualifies for it has none
+abbrev pub EmptyFor : Site → Pattern → ℕ → Type 0
+EmptyFor site pattern i =
+    (fullTable site pattern i ≡ [])
+    ⊎ ((j : ℕ) × (k : Kind) × (k ∈ kinds) × (qualifies pattern i j k ≡ true) × (reducedTable site pattern i j k ≡ []))
 
 -- rows of v words: None where there is none; 21 where they do not fit
 unfoldable pub rowsOutcome : ℕ → List (List ℕ) → List ℕ → Outcome

@@ -17,7 +17,7 @@ use Rattle.model.specs.PlanFile.{readPlan}
 use Rattle.model.specs.Solutions.{IsSolution, solutions}
 use Rattle.model.specs.Components.{ComponentsSolved}
 use Rattle.model.specs.Join.{joinRows}
-use Rattle.model.specs.Calls.{plan, noneByCounts}
+use Rattle.model.specs.Calls.{plan, noneByCounts, EmptyFor}
 use Rattle.model.specs.declared.pattern.Position.the-variants.{Var}
 use Rattle.model.specs.declared.pattern.TriplePattern.{TriplePattern}
 use Rattle.model.proofs.Order.{row-before, next-after, each-after, from-lexicographic, into-lexicographic}
@@ -32,7 +32,7 @@ use Rattle.model.proofs.Equation.{join-solutions}
 use Rattle.model.proofs.Components.{components-solved}
 use Rattle.model.proofs.PatternFile.{pattern-accepted}
 use Rattle.model.proofs.PlanFile.{plan-file}
-use Rattle.model.proofs.Calls.{none-by-counts}
+use Rattle.model.proofs.Calls.{counted-none, none-counted, none-by-counts}
 
 -- ==== Demand 2. The answer to an accepted check holds exactly the solutions of its basic graph pattern over the site, as SPARQL 1.1
 -- defines them, each once, in ascending order; and the tables hold exactly the semi-joins of the S2RDF paper.
@@ -137,6 +137,15 @@ pub empty-table : Empty-Table
 empty-table site bytes pattern r =
     let accepted = pattern-accepted site bytes pattern r in
     (empty-reduced site pattern accepted, empty-full site pattern accepted, none-by-counts site pattern accepted)
+
+-- the counts alone give None exactly where such a table has no rows
+abbrev pub Counts-Exactly : Type 0
+Counts-Exactly =
+    (site : Site) (pattern : Pattern)
+    → (noneByCounts site pattern ≡ true) ↔ ((i : ℕ) × (i < length pattern) × EmptyFor site pattern i)
+
+pub counts-exactly : Counts-Exactly
+counts-exactly site pattern = (counted-none site pattern, λ (i, small, e). none-counted site pattern i small e)
 
 -- no table reduces a triple pattern against itself
 abbrev pub Not-Against-Itself : Type 0
