@@ -90,9 +90,9 @@ patternIn (gives pattern) = pattern
 abbrev pub joinWords : List ℕ → Plan → List ℕ
 joinWords bytes plan = concatMap (λ row. row) (joinRows (siteIn (readSite shop)) (patternIn (readPattern (siteIn (readSite shop)) bytes)) plan)
 
--- what a caller sees of an answer: the number returned, and four words lent for the values, each 7 before
+-- what a caller sees of an outcome: the number returned, four words lent for the values, each 7 before, and the memory
 abbrev pub told : Outcome → Outcome
-told o = let s = seenOf o (lent 4) in outcome (o .answer) (s .number ∷ s .values)
+told o = let s = seenOf o (lent 4) in outcome (o .answer) (s .number ∷ (s .values ++ s .memory))
 
 -- what a caller sees of a plan's answer: the same, and sixteen bytes lent for the plan
 abbrev pub toldPlan : Planned → Outcome
@@ -121,8 +121,8 @@ cases =
     (build 1000 shop (lent 85), outcome (Built 84) (stored 1000 ++ 7 ∷ []))
     ∷ (build 1000 shop (lent 84), outcome (Built 84) (stored 1000))
     ∷ (build 1000 shop (lent 83), outcome (Refused 9) (lent 83))
-    ∷ (told (build 1000 shop (lent 84)), outcome (Built 84) (0 ∷ 3 ∷ 84 ∷ 0 ∷ 0 ∷ []))
-    ∷ (told (build 1000 shop (lent 83)), outcome (Refused 9) (9 ∷ 7 ∷ 7 ∷ 7 ∷ 7 ∷ []))
+    ∷ (told (outcome (Built 84) (stored 1000)), outcome (Built 84) (0 ∷ 3 ∷ 84 ∷ 0 ∷ 0 ∷ stored 1000))
+    ∷ (told (outcome (Refused 9) (lent 83)), outcome (Refused 9) (9 ∷ 7 ∷ 7 ∷ 7 ∷ 7 ∷ lent 83))
     -- (b) T 667: stored; T 666: not
     ∷ (build 667 shop (lent 84), outcome (Built 84) (stored 667))
     ∷ (build 666 shop (lent 84), outcome (Built 80) (unstored 666 ++ 7 ∷ 7 ∷ 7 ∷ 7 ∷ []))
@@ -135,11 +135,10 @@ cases =
       toldPlan (plan (stored 1000) check),
       outcome PlanAnswer (0 ∷ 4 ∷ 3 ∷ 0 ∷ 0 ∷ 2 ∷ 0 ∷ 0 ∷ 4 ∷ 1 ∷ 0 ∷ 0 ∷ 0 ∷ 0 ∷ 0 ∷ 0 ∷ 0 ∷ 0 ∷ 0 ∷ 0 ∷ 0 ∷ []),
     )
-    ∷ (run (stored 1000) check chosenPlan (lent 4), outcome (Rows 1 3) (11 ∷ 21 ∷ 30 ∷ 7 ∷ []))
     ∷ (run (stored 1000) check writtenPlan (lent 4), outcome (Rows 1 3) (11 ∷ 21 ∷ 30 ∷ 7 ∷ []))
     ∷ (run (stored 1000) check chosenPlan (lent 2), outcome (Refused 21) (7 ∷ 7 ∷ []))
     ∷ (run (stored 1000) check chosenPlan (lent 3), outcome (Rows 1 3) (11 ∷ 21 ∷ 30 ∷ []))
-    ∷ (told (run (stored 1000) check chosenPlan (lent 3)), outcome (Rows 1 3) (0 ∷ 1 ∷ 1 ∷ 3 ∷ 0 ∷ []))
+    ∷ (told (outcome (Rows 1 3) (11 ∷ 21 ∷ 30 ∷ [])), outcome (Rows 1 3) (0 ∷ 1 ∷ 1 ∷ 3 ∷ 0 ∷ 11 ∷ 21 ∷ 30 ∷ []))
     ∷ (
       outcome PlanAnswer
           (joinWords check
@@ -176,10 +175,7 @@ cases =
     ∷ (run (stored 1000) (0x01 ∷ 0x14 ∷ 0x02 ∷ 0x2A ∷ []) (0x00 ∷ 0x00 ∷ []) (lent 1), outcome None (7 ∷ []))
     -- (g) ?0 covers ?0
     ∷ (run (stored 1000) (0x01 ∷ 0x01 ∷ 0x02 ∷ 0x01 ∷ []) (0x00 ∷ 0x00 ∷ []) (lent 1), outcome None (7 ∷ []))
-    ∷ (
-      told (run (stored 1000) (0x01 ∷ 0x01 ∷ 0x02 ∷ 0x01 ∷ []) (0x00 ∷ 0x00 ∷ []) (lent 1)),
-      outcome None (0 ∷ 2 ∷ 0 ∷ 0 ∷ 0 ∷ []),
-    )
+    ∷ (told (outcome None (7 ∷ [])), outcome None (0 ∷ 2 ∷ 0 ∷ 0 ∷ 0 ∷ 7 ∷ []))
     -- (h) a cross join
     ∷ (
       run (stored 1000) (0x02 ∷ 0x01 ∷ 0x04 ∷ 0x3C ∷ 0x03 ∷ 0x06 ∷ 0x52 ∷ []) (0x00 ∷ 0x00 ∷ 0x01 ∷ 0x00 ∷ []) (lent 5),
@@ -201,9 +197,10 @@ cases =
     )
     ∷ (run (stored 1000) (0x00 ∷ []) [] (lent 1), outcome (Refused 12) (7 ∷ []))
     ∷ (build 1000 (0x80 ∷ 0x00 ∷ []) (lent 3), outcome (Refused 2) (7 ∷ 7 ∷ 7 ∷ []))
-    -- what the check program prints: rows 1 width 3, and 11 21 30; none; refused 14
+    -- what the check program answers on this shop and prints of it: rows 1 width 3, and 11 21 30; then none; refused 14
+    ∷ (chain shop check (lent 4), outcome (Rows 1 3) (11 ∷ 21 ∷ 30 ∷ 7 ∷ []))
     ∷ (
-      shown (chain shop check (lent 4)),
+      shown (outcome (Rows 1 3) (11 ∷ 21 ∷ 30 ∷ 7 ∷ [])),
       outcome (Rows 1 3)
           (114 ∷ 111 ∷ 119 ∷ 115 ∷ 32 ∷ 49 ∷ 32 ∷ 119 ∷ 105 ∷ 100 ∷ 116 ∷ 104 ∷ 32 ∷ 51 ∷ 10 ∷ 49 ∷ 49 ∷ 32 ∷ 50 ∷ 49 ∷ 32 ∷ 51 ∷ 48 ∷ 10 ∷ []),
     )
