@@ -1,6 +1,5 @@
 -- The image of a site: the declarations of its entries, and the site that it holds.
 use Prim.Native.Nat.{ℕ, _+_, _*_, _<_, _≤_}
-use native.Mathlib.Nat.{mul-le-mul}
 use native.Mathlib.Omega.{arith}
 use mathlib.Core.Path.{_≡_, refl, sym, ap, _∙_}
 use mathlib.Core.Bool.{true, false}
@@ -17,16 +16,19 @@ use Rattle.model.proofs.SiteFile.{sum-map, all-tables-read}
 use Rattle.model.proofs.StoreLayout.{length-all}
 use Rattle.model.proofs.Blocks.{Block, drop-block}
 use Rattle.model.proofs.Setting.{part-sets, sets-block}
-use Rattle.tables.specs.SiteWords.{declaredIn, declaredRows, ImageHolds}
+use Rattle.tables.specs.SiteWords.{declaredIn, declaredRows, imageWords, ImageHolds}
 use Rattle.tables.proofs.Declared.{length-declaredIn}
+use Rattle.tables.proofs.Images.{rows-room}
 use Rattle.numbers.specs.NumberAt.{numberAt}
-use Rattle.site_reading.specs.Image.{imageWords, TakenAs, DeclaredIn, SiteReadAs}
+use Rattle.site_elements.specs.Reading.{TakenAs}
+use Rattle.site_reading.specs.Image.{DeclaredIn, SiteReadAs}
 use Rattle.numbers.specs.declared.number.Number.the-variants.{Value}
-use Rattle.site_reading.specs.declared.site_reader.Taken.{Taken}
-use Rattle.site_reading.specs.declared.site_reader.Taken.the-variants.{At, Refused}
+use Rattle.site_elements.specs.declared.taken.Taken.{Taken}
+use Rattle.site_elements.specs.declared.taken.Taken.the-variants.{At, Refused}
 use Rattle.site_reading.specs.declared.site_reader.SiteRead.the-variants.{Predicates, Refused as SiteRefused}
-use Rattle.site_reading.proofs.Reading.{was-refused, was-taken, declarations-good, declarations-read}
-use Rattle.site_reading.proofs.Writing.{length-declared}
+use Rattle.site_elements.proofs.Replies.{was-refused, was-taken}
+use Rattle.site_elements.proofs.DeclarationReading.{length-declared, declarations-good}
+use Rattle.site_reading.proofs.Reading.{declarations-read}
 
 -- ---- the declarations of entries
 
@@ -39,10 +41,6 @@ site-size : (count : ℕ) (entries : List ℕ) (site : Site) → declarations si
 site-size count entries site same = sym (length-map site declarationOf) ∙ ap length same ∙ length-declaredIn count entries
 
 -- ---- an image of count predicates
-
--- it has words for the entries and the rows
-pub rows-room : (count : ℕ) → count ≤ mostPredicates → rowsStart count + 2 * mostRows ≤ imageWords
-rows-room count few = omega (arith, mul-le-mul few few)
 
 module _ (count : ℕ) (image : List ℕ) (few : count ≤ mostPredicates) (room : imageWords ≤ length image) where
   -- the entries of declarations are written

@@ -13,8 +13,8 @@ use Rattle.model.specs.Store.{layout}
 use Rattle.model.specs.Calls.{outcome, over, either, unaltered, filled, build}
 use Rattle.model.specs.declared.answer.Answer.the-variants.{Built}
 use Rattle.model.proofs.SiteFile.{site-file}
-use Rattle.site_reading.specs.Image.{imageWords, SiteReadAs}
-use Rattle.tables.specs.SiteWords.{siteIn, ImageHolds, ImageOf}
+use Rattle.site_reading.specs.Image.{SiteReadAs}
+use Rattle.tables.specs.SiteWords.{siteIn, imageWords, ImageHolds, ImageOf}
 use Rattle.site_reading.specs.declared.site_reader.SiteRead.{SiteRead}
 use Rattle.site_reading.specs.declared.site_reader.SiteRead.the-variants.{Predicates, Refused}
 use Rattle.tables.proofs.Images.{image-of, stored-start-limit}

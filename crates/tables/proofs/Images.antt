@@ -15,7 +15,7 @@ use Rattle.model.proofs.Partition.{proper}
 use Rattle.model.proofs.Blocks.{Block, block-inside, element-block, drop-block, getD-block}
 use Rattle.model.proofs.StoreLayout.{length-table, entry-and-rows, vpEntry, vp-entries}
 use Rattle.model.proofs.Stores.{rows-back, tables-back}
-use Rattle.tables.specs.SiteWords.{siteIn, ImageHolds, ImageOf}
+use Rattle.tables.specs.SiteWords.{siteIn, imageWords, ImageHolds, ImageOf}
 use Rattle.model.proofs.Setting.{drop-sets, part-sets, part-block}
 
 -- a list by its front
@@ -66,10 +66,14 @@ pub few-predicates : {count : ℕ} {image : List ℕ} → ImageOf count image �
 few-predicates o = rw (o .predicates) at (proper _ (o .proper) .predicate-limit)
 
 -- the stored tables' rows begin where those of the largest site do, or before
-pub stored-start-limit : (site : Site) → isSite site ≡ true → storedStart site ≤ rowsStart mostPredicates + 2 * mostRows
+pub stored-start-limit : (site : Site) → isSite site ≡ true → storedStart site ≤ imageWords
 stored-start-limit site yes-site =
     let limits = proper site yes-site in
     omega (arith, few-semi-joins (limits .predicate-limit))
+
+-- there are words for the entries of count predicates and for the rows
+pub rows-room : (count : ℕ) → count ≤ mostPredicates → rowsStart count + 2 * mostRows ≤ imageWords
+rows-room count few = omega (arith, mul-le-mul few few)
 
 -- the entries stand inside
 pub entries-inside : {count : ℕ} {image : List ℕ} → ImageOf count image → rowsStart count ≤ length image

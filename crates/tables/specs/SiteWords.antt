@@ -6,7 +6,7 @@ use mathlib.Core.List.{List, [], _∷_}
 use lib.ListN.{length, getD, take, drop}
 use Rattle.model.specs.Lists.{sameWords}
 use Rattle.model.specs.SiteFile.{Declaration, declaredTotal, declaredProper, declarations}
-use Rattle.model.specs.Site.{Site, isSite}
+use Rattle.model.specs.Site.{Site, isSite, mostPredicates, mostRows}
 use Rattle.model.specs.Tables.{kindAt, kindCount}
 use Rattle.model.specs.Store.{Reduced, semiJoins, rowsStart, tablesIn, storedStart, vpEntries, vpWords, vpEntryAt}
 use Rattle.tables.specs.Columns.{columnOf}
@@ -35,6 +35,10 @@ entriesProper k words =
 -- the site whose entries and rows stand in an image
 abbrev pub siteIn : ℕ → List ℕ → Site
 siteIn count image = tablesIn count (drop 3 image) (drop (rowsStart count) image)
+
+-- the words of an image that is enough for every site
+abbrev pub imageWords : ℕ
+imageWords = rowsStart mostPredicates + 2 * mostRows
 
 -- the entries and the rows of a site stand in an image
 pub record ImageHolds (site : Site) (image : List ℕ) : Type 0 where

@@ -9,8 +9,7 @@ use borrow.Author.Needs.{needs}
 use Rattle.model.specs.Site.{mostPredicates}
 use Rattle.model.specs.Tables.{kindCount}
 use Rattle.model.specs.Store.{semiJoins, vpEntryAt}
-use Rattle.site_reading.specs.Image.{imageWords}
-use Rattle.tables.specs.SiteWords.{siteIn}
+use Rattle.tables.specs.SiteWords.{siteIn, imageWords}
 use Rattle.tables.proofs.Images.{mostSemiJoins, few-predicates, few-semi-joins, stored-start-limit, entries-inside}
 use Rattle.tables.proofs.Entries.{Counted, counted-stored, counted-of}
 use Rattle.tables.proofs.Reduced.{length-all-of}

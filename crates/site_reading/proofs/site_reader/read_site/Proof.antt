@@ -4,7 +4,8 @@ use borrow.Author.Tests.{le-leb, lt-leb}
 use borrow.Author.Needs.{needs}
 use Rattle.numbers.specs.NumberAt.{numberAt}
 use Rattle.numbers.specs.declared.number.Number.the-variants.{Value}
-use Rattle.site_reading.proofs.Reading.{was-refused, no-predicates, many-predicates, declarations-refused}
+use Rattle.site_elements.proofs.Replies.{was-refused}
+use Rattle.site_reading.proofs.Reading.{no-predicates, many-predicates, declarations-refused}
 use Rattle.site_reading.proofs.Declarations.{declarations-in, declarations-behind}
 use Rattle.site_reading.proofs.site_reader.read_site.Statement.{statement}
 use Rattle.site_reading.proofs.site_reader.read_site.Tie as tie

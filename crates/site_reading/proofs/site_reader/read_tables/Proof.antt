@@ -9,9 +9,11 @@ use borrow.Author.Needs.{needs}
 use Rattle.model.specs.Site.{Site, mostRows, rowTotal}
 use Rattle.model.specs.Store.{rowsStart, tableWords, vpWords, vpEntryAt}
 use Rattle.model.proofs.Growing.{sum-snoc}
-use Rattle.site_reading.specs.Image.{imageWords}
-use Rattle.site_reading.proofs.Reading.{was-refused, was-taken, rows-count, TablesRead, no-table-read, all-tables, table-fits, table-refused, table-read}
-use Rattle.site_reading.proofs.Declarations.{rows-room}
+use Rattle.tables.specs.SiteWords.{imageWords}
+use Rattle.tables.proofs.Images.{rows-room}
+use Rattle.site_elements.proofs.Replies.{was-refused, was-taken}
+use Rattle.site_elements.proofs.RowReading.{rows-count}
+use Rattle.site_reading.proofs.Reading.{TablesRead, no-table-read, all-tables, table-fits, table-refused, table-read}
 use Rattle.model.proofs.Setting.{getD-before}
 use Rattle.site_reading.proofs.Writing.{table-written}
 use Rattle.site_reading.proofs.site_reader.read_tables.Statement.{statement}

@@ -17,11 +17,11 @@ use Rattle.model.specs.Store.{tableWords}
 use Rattle.model.proofs.Growing.{above-none, above-snoc}
 use Rattle.numbers.specs.NumberAt.{numberAt}
 use Rattle.numbers.specs.declared.number.Number.the-variants.{Value}
-use Rattle.site_reading.proofs.Reading.{no-subject, wide-subject, no-object, wide-object, row-below, row-given}
+use Rattle.site_elements.proofs.RowReading.{no-subject, wide-subject, no-object, wide-object, row-below, row-given}
 use Rattle.model.proofs.Readers.{PartRead, none-read, all-read, next-refused, next-read}
 use Rattle.model.proofs.Rows.{row-written}
-use Rattle.site_reading.proofs.site_reader.read_rows.Statement.{statement}
-use Rattle.site_reading.proofs.site_reader.read_rows.Tie as tie
+use Rattle.site_elements.proofs.table_rows.read_rows.Statement.{statement}
+use Rattle.site_elements.proofs.table_rows.read_rows.Tie as tie
 
 -- what i rows of n leave
 record RowsRead (s : List ℕ) (at n : ℕ) (image₀ : List ℕ) (to : ℕ) (image : List ℕ) (next last-subject last-object i : ℕ) : Type 0 where

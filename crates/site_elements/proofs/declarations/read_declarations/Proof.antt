@@ -18,14 +18,13 @@ use Rattle.model.specs.SiteFile.{Declaration, declaration}
 use Rattle.model.specs.Store.{rowsStart, vpEntries}
 use Rattle.model.proofs.Growing.{sum-snoc, above-none, above-snoc}
 use Rattle.numbers.specs.NumberAt.{numberAt}
-use Rattle.site_reading.specs.Image.{imageWords}
+use Rattle.tables.specs.SiteWords.{imageWords}
+use Rattle.tables.proofs.Images.{rows-room}
 use Rattle.numbers.specs.declared.number.Number.the-variants.{Value}
-use Rattle.site_reading.proofs.Reading.{no-term, wide-term, term-below, no-count, many-rows, declaration-given}
+use Rattle.site_elements.proofs.DeclarationReading.{no-term, wide-term, term-below, no-count, many-rows, declaration-given, declaration-written}
 use Rattle.model.proofs.Readers.{PartRead, none-read, all-read, next-refused, next-read}
-use Rattle.site_reading.proofs.Declarations.{rows-room}
-use Rattle.site_reading.proofs.Writing.{declaration-written}
-use Rattle.site_reading.proofs.site_reader.read_declarations.Statement.{statement}
-use Rattle.site_reading.proofs.site_reader.read_declarations.Tie as tie
+use Rattle.site_elements.proofs.declarations.read_declarations.Statement.{statement}
+use Rattle.site_elements.proofs.declarations.read_declarations.Tie as tie
 
 -- what i declarations leave
 record DeclarationsRead (s : List ℕ) (at count : ℕ) (image₀ image : List ℕ) (next total here last i : ℕ) : Type 0 where

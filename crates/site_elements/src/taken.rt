@@ -1,0 +1,5 @@
+// How far bytes were taken, or the refusal's number.
+pub enum Taken {
+    At(usize),
+    Refused(u32),
+}
