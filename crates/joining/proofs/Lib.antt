@@ -3,4 +3,3 @@ pub mod JoinFrom
 pub mod ScanJoin
 pub mod PlanJoin
 pub mod FourNumbers
-pub mod JoinWords

@@ -1,3 +1,2 @@
-// The join of a physical plan: how many solutions there are, and their rows.
+// The join of a physical plan: how many solutions there are.
 pub mod join_count;
-pub mod join_write;
