@@ -65,8 +65,8 @@ length-declared here [] = refl
 length-declared here (d ∷ ds) = let e = length-declared (here + 2 * d .1) ds in omega arith
 
 -- an entry behind those of the declarations done
-pub declaration-written : (image₀ image : List ℕ) (here : ℕ) (done : List Declaration) (d : Declaration) → image ≡ sets image₀ 3 (vpEntries here done)
-    → sets image (vpEntryAt (length done)) (d .0 ∷ d .1 ∷ (here + 2 * sum (λ d. d .1) done) ∷ [])
-    ≡ sets image₀ 3 (vpEntries here (done ++ d ∷ []))
-declaration-written image₀ image here done d e =
-    rw (e, declared-snoc here done d, sets-append image₀ 3 (vpEntries here done) (d .0 ∷ d .1 ∷ (here + 2 * sum (λ d. d .1) done) ∷ []), length-declared here done) refl
+pub declaration-written : (image₀ image : List ℕ) (here : ℕ) (done : List Declaration) (d : Declaration) {i start : ℕ}
+    → length done ≡ i → start ≡ here + 2 * sum (λ d. d .1) done → image ≡ sets image₀ 3 (vpEntries here done)
+    → sets image (vpEntryAt i) (d .0 ∷ d .1 ∷ start ∷ []) ≡ sets image₀ 3 (vpEntries here (done ++ d ∷ []))
+declaration-written image₀ image here done d many running e =
+    rw (e, ← many, running, declared-snoc here done d, sets-append image₀ 3 (vpEntries here done) (d .0 ∷ d .1 ∷ (here + 2 * sum (λ d. d .1) done) ∷ []), length-declared here done) refl

@@ -1,13 +1,20 @@
 -- A place does not qualify against itself; else the named positions decide.
-use mathlib.Core.Path.{refl}
+use Prim.Native.Nat.{ℕ}
+use mathlib.Core.Path.{_≡_, refl}
+use mathlib.Core.Bool.{false}
 use borrow.Author.Needs.{needs}
 use borrow.Author.Tests.{eq-eqb, ne-eqb}
+use Rattle.model.specs.declared.pattern.TriplePattern.{TriplePattern}
+use Rattle.choosing.specs.Choices.{qualifiesBy}
 use Rattle.choosing.proofs.Chooseable.{same-named}
 use Rattle.choosing.proofs.choosing.qualifies.Statement.{statement}
 use Rattle.choosing.proofs.choosing.qualifies.Tie as tie
 
+against-itself : (q : TriplePattern) (i : ℕ) (r : TriplePattern) (j k : ℕ) → i ≡ j → false ≡ qualifiesBy q i r j k
+against-itself q i r j k same = rw (eq-eqb i j same) refl
+
 returns : tie.Need-returns
-returns c = rw (eq-eqb _ _ (c .if1 .taken)) refl
+returns c = let a = c .before .args in against-itself (a .q) _ (a .r) _ (a .k) (c .if1 .taken)
 
 own-column-requires : tie.Need-own-column-requires
 own-column-requires c κs = search needs
