@@ -9,7 +9,7 @@ use mathlib.Core.List.{List, []}
 use lib.ListN.{length}
 use lib.Dec.{eqb}
 use borrow.Author.Tests.{eqb-true}
-use Rattle.model.specs.Lists.{_∈_, any}
+use Rattle.model.specs.Lists.{any}
 use Rattle.model.specs.Reader.{Reply, refused, gives}
 use Rattle.model.specs.Site.{Row, Site}
 use Rattle.model.specs.Tables.{Kind, kinds}
