@@ -1,0 +1,2 @@
+// The join of a physical plan: whether there is a solution.
+pub mod exists;
