@@ -1,17 +1,19 @@
-/* closing.h - the closing-check engine: builds a site's tables, plans a check over them, runs it.
+/* closing.h - the closing-check engine: builds a site's tables, plans a check over them, runs it or tells whether it has a solution.
  *
  * Link with libclosing.a, which `rt staticlib closing` writes; x86-64 Linux. What each call does is proved, for every input, against
  * the definitions in crates/model/specs/Calls.antt; this text says it in words. "01" is the project's scope document.
  *
- * THE THREE CALLS. closing_build turns the file of a site into a store, closing_plan plans a check over a store, closing_run runs a
- * plan and gives the rows, or none. Each call asks its own questions of everything that it is given, in the order of the list below,
- * and asks no earlier check of its caller: a store, a check or a plan may come from anywhere.
+ * THE FOUR CALLS. closing_build turns the file of a site into a store, closing_plan plans a check over a store, closing_run runs a
+ * plan and gives the rows, or none, and closing_whether, for a lamp, only tells whether there is a row. Each call asks its own
+ * questions of everything that it is given, in the order of the list below, and asks no earlier check of its caller: a store, a check
+ * or a plan may come from anywhere.
  *
  * WHAT IS RETURNED. 0, and then `answer` holds the kind of the answer and its values, unused words 0. Or the number of the first
  * question that was answered no, 1 to 21, and then no lent memory is altered, `answer` included.
  *
- * NONE. CLOSING_NONE is said only of a store that is, word for word, that of a site, and only where that whole site holds no match.
- * A site that was not read whole has no store: closing_build refuses it. Whoever answers a refusal with "nothing open" undoes this.
+ * NONE. CLOSING_NONE and CLOSING_NO are said only of a store that is, word for word, that of a site, and only where that whole site
+ * holds no match: of one store, check and plan closing_run says none exactly where closing_whether says no. A site that was not read
+ * whole has no store: closing_build refuses it. Whoever answers a refusal with "nothing open" undoes this.
  *
  * MEMORY. Pieces of memory lent to one call must not overlap, but that what is only read may overlap what is only read. Words are
  * uint32_t, aligned to 4, in the machine's own byte order, and so is a store that is kept in a file; `answer` is aligned to 8. Bytes
@@ -37,7 +39,7 @@ extern "C" {
 #endif
 
 /* Raised when the inputs of a call or the numbers of an answer change. */
-#define CLOSING_VERSION 1
+#define CLOSING_VERSION 2
 
 /* A store of this many words holds every site at every threshold: with it closing_build never returns 9 (a law: Store-Words-Suffice
  * in crates/model/proofs/Demands.antt). Most sites need far fewer; 01's shop needs 84. */
@@ -48,6 +50,8 @@ extern "C" {
 #define CLOSING_NONE 2  /* no solution; 0, 0 */
 #define CLOSING_BUILT 3 /* the count of the store's words used; 0 */
 #define CLOSING_PLAN 4  /* the count of steps; 0 */
+#define CLOSING_YES 5   /* a solution; 0, 0 */
+#define CLOSING_NO 6    /* no solution; 0, 0 */
 
 /* Refusals: the question that was answered no. Those of one file are asked as its bytes are read, from the front; the form of a
  * number (1 to 3 bytes, seven bits each, low group first, in shortest form) is questioned before its field.
@@ -62,7 +66,7 @@ extern "C" {
  *    7  Is each row above the one before in its table?
  *    8  Does the site's file end there?
  *    9  Does the lent store hold the words needed?
- * closing_plan and closing_run:
+ * closing_plan, closing_run and closing_whether:
  *   10  Are the store's words what some site and some T give? Its first "words used" words are compared in full.
  *   11  Is each number of the pattern whole and in shortest form?
  *   12  Is the count of triple patterns 1 to 8?
@@ -71,10 +75,11 @@ extern "C" {
  *   15  Is each other fixed position a term?
  *   16  Is each variable at most 7, and in first-use order?
  *   17  Does the pattern's file end there?
- * closing_run:
+ * closing_run and closing_whether:
  *   18  Is each number of the plan whole and in shortest form, with a step for each triple pattern and no more bytes?
  *   19  Is the place a triple pattern's, and not yet used?
  *   20  Is the choice 0, or a table that is stored and qualifies?
+ * closing_run:
  *   21  Do the rows fit the lent words? Asked only where there are rows; rows of no words always fit. */
 
 /* Builds the store of a site.
@@ -104,6 +109,13 @@ uint32_t closing_plan(const uint32_t *store, size_t store_words, const uint8_t *
  * Returns 0, or 10 to 21. */
 uint32_t closing_run(const uint32_t *store, size_t store_words, const uint8_t *pattern, size_t pattern_bytes, const uint8_t *plan,
                      size_t plan_bytes, uint32_t *rows, size_t row_words, uint64_t answer[4]);
+
+/* Tells whether a check over a store has a solution. The first solution that is met ends the call: none is counted or written.
+ *   store, pattern, plan   as for closing_run; what is told is the same for every plan that is accepted
+ *   answer                 CLOSING_YES or CLOSING_NO
+ * Returns 0, or 10 to 20: no rows memory is lent, so 21 is not asked. */
+uint32_t closing_whether(const uint32_t *store, size_t store_words, const uint8_t *pattern, size_t pattern_bytes, const uint8_t *plan,
+                         size_t plan_bytes, uint64_t answer[4]);
 
 #ifdef __cplusplus
 }

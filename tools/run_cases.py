@@ -1,5 +1,5 @@
-"""The further cases of `run` and of the chain: what the plan's own questions refuse, what fits, and that every proper plan gives
-the same rows."""
+"""The further cases of `run`, and of `whether`, which is asked of the same; and of the chain: what the plan's own questions refuse, what
+fits, and that every proper plan gives the same rows."""
 from itertools import permutations, product
 
 from making import BAD_FORM, Over, faults_apart, joined, random_numbers, random_pattern

@@ -1,7 +1,7 @@
 #!/usr/bin/env python3
 """The further cases: what the program `vectors` reads (crates/vectors/stdin) and has to print (crates/vectors/stdout).
 
-Worked out by reference.py from document 01, and for the graph G1 from the S2RDF paper; nothing is taken from the engine.
+Worked out by reference.py from documents 01 and 02, and for the graph G1 from the S2RDF paper; nothing is taken from the engine.
 Usage: vectors.py          writes both files
        vectors.py --check  exits 1 where a file is not what this script writes
 """
@@ -11,7 +11,7 @@ import sys
 import build_cases
 import plan_cases
 import run_cases
-from reference import Refused, build, chain, choices, layout, plan, read_pattern, read_store, run, variables
+from reference import Refused, build, chain, choices, layout, plan, read_pattern, read_store, run, variables, whether
 from sites import CHECK, CHECK_PLAN, G1, G1_WORDS, Q1, SHOP, SHOP_WORDS, STAR_OF_TERMS
 
 FOLDER = os.path.join(os.path.dirname(os.path.abspath(__file__)), '..', 'crates', 'vectors')
@@ -54,6 +54,13 @@ def ran(call, lent, *inputs):
     return ('rows %d %d' % (count, width) if count else 'none') + memory_text(memory, words)
 
 
+def told(*inputs):
+    try:
+        return 'yes\n' if whether(*inputs) else 'no\n'
+    except Refused as refusal:
+        return 'refused %d\n' % refusal.args[0]
+
+
 def files():
     stdin, stdout = [], []
 
@@ -76,7 +83,8 @@ def files():
                 add(planned(words, pattern), 2, pattern, **over)
             else:
                 steps, lent = given
-                add(ran(run, lent, words, pattern, steps), 3, pattern, steps, lent=lent, **over)
+                expected = ran(run, lent, words, pattern, steps) + told(words, pattern, steps)
+                add(expected, 3, pattern, steps, lent=lent, **over)
     return {'stdin': b''.join(stdin), 'stdout': ''.join(stdout).encode()}
 
 

@@ -15,14 +15,17 @@
 #include <stdlib.h>
 #include <string.h>
 
-enum { BUILD, PLAN, RUN, CALLS };
+enum { BUILD, PLAN, RUN, WHETHER, CALLS };
 
-static const char *const call_name[CALLS] = {"build", "plan", "run"};
+/* Answers are counted by their kind and refusals by their number, both from 1. */
+enum { KINDS = CLOSING_NO + 1, NUMBERS = 21 + 1 };
+
+static const char *const call_name[CALLS] = {"build", "plan", "run", "whether"};
 
 /* The least and the greatest refusal of each call. */
-static const uint32_t first_refusal[CALLS] = {1, 10, 10}, last_refusal[CALLS] = {9, 17, 21};
+static const uint32_t first_refusal[CALLS] = {1, 10, 10, 10}, last_refusal[CALLS] = {9, 17, 21, 20};
 
-static uint64_t refused[CALLS][22], answered[CALLS][5];
+static uint64_t refused[CALLS][NUMBERS], answered[CALLS][KINDS];
 
 static int expects_wrongly;
 
@@ -33,8 +36,10 @@ struct lending {
 
 static struct lending lending;
 
-/* What was there before the call, and what the reference makes of it. */
+/* What was there before the call, and what the reference makes of it: what is only read stays as it was. */
 struct expected {
+    const void *read[3];
+    int reads;
     uint32_t words[STORE_WORDS];
     size_t size;
     uint64_t answer[4];
@@ -43,7 +48,24 @@ struct expected {
 
 static struct expected expected;
 
-static void expect_lent(const struct input *input, size_t size) {
+static void lend_read(const struct input *input, int i, const void *content, size_t size) {
+    expected.read[i] = content;
+    expected.reads = i + 1;
+    lent_fill(&lending.read[i], content, size, input->at_end);
+}
+
+static void lend_check(const struct input *input, const uint32_t *store, size_t store_words) {
+    lend_read(input, 0, store, 4 * store_words);
+    lend_read(input, 1, input->pattern.byte, input->pattern.size);
+}
+
+static void lend_planned_check(const struct input *input, const uint32_t *store, size_t store_words) {
+    lend_check(input, store, store_words);
+    lend_read(input, 2, input->plan.byte, input->plan.size);
+}
+
+/* What may be written: the answer, and so many bytes of other memory. */
+static void lend_written(const struct input *input, size_t size) {
     static const uint64_t before[4] = {11, 22, 33, 44};
     expected.size = size;
     for (size_t i = 0; i < size / 4; i++)
@@ -56,7 +78,7 @@ static void expect_lent(const struct input *input, size_t size) {
 /* The last disagreement, in words. */
 static char disagreement[160];
 
-static int differs(int call, uint32_t number, const struct lent *read[], const void *const content[], int reads) {
+static int differs(int call, uint32_t number) {
     const char *what = NULL;
     if (expects_wrongly && call == RUN && expected.number == 0 && expected.answer[0] == CLOSING_ROWS && expected.size > 0)
         expected.words[0]++;
@@ -68,8 +90,8 @@ static int differs(int call, uint32_t number, const struct lent *read[], const v
         what = "the lent memory";
     else if (!lent_is_marked(&lending.written) || !lent_is_marked(&lending.answer))
         what = "memory beside what was lent";
-    for (int i = 0; i < reads && !what; i++)
-        if (memcmp(read[i]->data, content[i], read[i]->size) != 0 || !lent_is_marked(read[i]))
+    for (int i = 0; i < expected.reads && !what; i++)
+        if (memcmp(lending.read[i].data, expected.read[i], lending.read[i].size) != 0 || !lent_is_marked(&lending.read[i]))
             what = "memory that is only read";
     if (what)
         snprintf(disagreement, sizeof disagreement, "closing_%s: %s is not what it should be; returned %" PRIu32 ", to be %" PRIu32, call_name[call],
@@ -85,23 +107,18 @@ static void count_answer(int call) {
 }
 
 static int build_differs(const struct input *input) {
-    const struct lent *read[] = {&lending.read[0]};
-    const void *const content[] = {input->site.byte};
-    lent_fill(&lending.read[0], input->site.byte, input->site.size, input->at_end);
-    expect_lent(input, 4 * input->store_words);
+    lend_read(input, 0, input->site.byte, input->site.size);
+    lend_written(input, 4 * input->store_words);
     expected.number = reference_build(input->t, input->site.byte, input->site.size, expected.words, input->store_words, expected.answer);
     uint32_t number = closing_build(input->t, lending.read[0].data, input->site.size, (uint32_t *)(void *)lending.written.data, input->store_words,
                                     (uint64_t *)(void *)lending.answer.data);
     count_answer(BUILD);
-    return differs(BUILD, number, read, content, 1);
+    return differs(BUILD, number);
 }
 
 static int plan_differs(const struct input *input, const uint32_t *store, size_t store_words) {
-    const struct lent *read[] = {&lending.read[0], &lending.read[1]};
-    const void *const content[] = {store, input->pattern.byte};
-    lent_fill(&lending.read[0], store, 4 * store_words, input->at_end);
-    lent_fill(&lending.read[1], input->pattern.byte, input->pattern.size, input->at_end);
-    expect_lent(input, 16);
+    lend_check(input, store, store_words);
+    lend_written(input, 16);
     uint8_t plan[16];
     memcpy(plan, expected.words, sizeof plan);
     expected.number = reference_plan(store, store_words, input->pattern.byte, input->pattern.size, plan, expected.answer);
@@ -109,29 +126,37 @@ static int plan_differs(const struct input *input, const uint32_t *store, size_t
     uint32_t number = closing_plan((uint32_t *)(void *)lending.read[0].data, store_words, lending.read[1].data, input->pattern.size,
                                    lending.written.data, (uint64_t *)(void *)lending.answer.data);
     count_answer(PLAN);
-    return differs(PLAN, number, read, content, 2);
+    return differs(PLAN, number);
 }
 
 static int run_differs(const struct input *input, const uint32_t *store, size_t store_words) {
-    const struct lent *read[] = {&lending.read[0], &lending.read[1], &lending.read[2]};
-    const void *const content[] = {store, input->pattern.byte, input->plan.byte};
-    lent_fill(&lending.read[0], store, 4 * store_words, input->at_end);
-    lent_fill(&lending.read[1], input->pattern.byte, input->pattern.size, input->at_end);
-    lent_fill(&lending.read[2], input->plan.byte, input->plan.size, input->at_end);
-    expect_lent(input, 4 * input->row_words);
+    lend_planned_check(input, store, store_words);
+    lend_written(input, 4 * input->row_words);
     expected.number = reference_run(store, store_words, input->pattern.byte, input->pattern.size, input->plan.byte, input->plan.size, expected.words,
                                     input->row_words, expected.answer);
     uint32_t number = closing_run((uint32_t *)(void *)lending.read[0].data, store_words, lending.read[1].data, input->pattern.size,
                                   lending.read[2].data, input->plan.size, (uint32_t *)(void *)lending.written.data, input->row_words,
                                   (uint64_t *)(void *)lending.answer.data);
     count_answer(RUN);
-    return differs(RUN, number, read, content, 3);
+    return differs(RUN, number);
+}
+
+static int whether_differs(const struct input *input, const uint32_t *store, size_t store_words) {
+    lend_planned_check(input, store, store_words);
+    lend_written(input, 0);
+    expected.number =
+        reference_whether(store, store_words, input->pattern.byte, input->pattern.size, input->plan.byte, input->plan.size, expected.answer);
+    uint32_t number = closing_whether((uint32_t *)(void *)lending.read[0].data, store_words, lending.read[1].data, input->pattern.size,
+                                      lending.read[2].data, input->plan.size, (uint64_t *)(void *)lending.answer.data);
+    count_answer(WHETHER);
+    return differs(WHETHER, number);
 }
 
 static int input_differs(const struct input *input) {
     static uint32_t store[STORE_WORDS];
     size_t store_words = held_store(input, store);
-    return build_differs(input) || plan_differs(input, store, store_words) || run_differs(input, store, store_words);
+    return build_differs(input) || plan_differs(input, store, store_words) || run_differs(input, store, store_words) ||
+           whether_differs(input, store, store_words);
 }
 
 /* Leaves out of the input whatever is not needed to show the disagreement. */
@@ -147,12 +172,13 @@ static void make_small(struct input *input) {
 
 /* Prints what occurred; 0 if something never did. */
 static int all_occurred(void) {
-    static const uint64_t kinds[CALLS][2] = {{CLOSING_BUILT, CLOSING_BUILT}, {CLOSING_PLAN, CLOSING_PLAN}, {CLOSING_ROWS, CLOSING_NONE}};
-    static const char *const kind_name[5] = {"", "rows", "none", "built", "plan"};
+    static const uint64_t kinds[CALLS][2] = {
+        {CLOSING_BUILT, CLOSING_BUILT}, {CLOSING_PLAN, CLOSING_PLAN}, {CLOSING_ROWS, CLOSING_NONE}, {CLOSING_YES, CLOSING_NO}};
+    static const char *const kind_name[KINDS] = {"", "rows", "none", "built", "plan", "yes", "no"};
     int all = 1;
     for (int call = 0; call < CALLS; call++) {
         printf("closing_%s:", call_name[call]);
-        for (uint64_t kind = 1; kind < 5; kind++)
+        for (uint64_t kind = 1; kind < KINDS; kind++)
             if (kind == kinds[call][0] || kind == kinds[call][1]) {
                 printf(" %s %" PRIu64, kind_name[kind], answered[call][kind]);
                 all = all && answered[call][kind] > 0;

@@ -122,7 +122,7 @@ static void make_build(struct input *input, struct shape shape) {
         input->store_words = below(200);
 }
 
-/* ---- the store that plan and run are given */
+/* ---- the store that plan, run and whether are given */
 
 static void make_held(struct input *input, struct shape shape) {
     input->held_t = one_in(2) ? 1000 : below(1001);
@@ -311,7 +311,8 @@ static void print_file(const char *name, const struct file *file) {
 void print_input(const struct input *input) {
     printf("build: T %" PRIu32 ", %zu words lent\n", input->t, input->store_words);
     print_file("site", &input->site);
-    printf("plan and run over the store at T %" PRIu32 ", with %zu words more and %zu fewer", input->held_t, input->held_more, input->held_less);
+    printf("plan, run and whether over the store at T %" PRIu32 ", with %zu words more and %zu fewer", input->held_t, input->held_more,
+           input->held_less);
     if (input->is_damaged)
         printf(", word %zu (modulo those used) raised by %" PRIu32, input->damaged_at, input->damaged_by);
     printf("\n");

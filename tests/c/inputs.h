@@ -1,4 +1,4 @@
-/* Seeded inputs of the three calls, good and damaged. */
+/* Seeded inputs of the four calls, good and damaged. */
 #ifndef INPUTS_H
 #define INPUTS_H
 
@@ -6,7 +6,7 @@
 
 enum { STORE_WORDS = 120000, ROW_WORDS = 4096 };
 
-/* One input: a build; and a plan and a run over the store of a good site, which may be damaged. */
+/* One input: a build; and a plan, a run and whether over the store of a good site, which may be damaged. */
 struct input {
     uint32_t t;
     struct file site;

@@ -1,6 +1,6 @@
 /* Large sites, where question 10 marks, walks and searches: up to 1,024 rows in up to 16 tables, terms at random out of few or many, and in
  * each store one word after another damaged. The build is compared with the reference word for word, and of each store whether a plan is
- * made, which one, or with which number it is refused. Seeded: every run is the same. */
+ * made, which one, or with which number it is refused, and the same of whether there is a solution. Seeded: every run is the same. */
 #include "closing.h"
 #include "files.h"
 #include "reference.h"
@@ -46,20 +46,31 @@ static void make_site(uint32_t predicates, uint32_t terms) {
             put_row(&site, rows[p][i]);
 }
 
-/* A plan of two triple patterns, ?0 p ?1 and ?1 q ?2; the number returned, or -1 where the engine and the reference disagree. */
-static int planned(size_t used, uint32_t p, uint32_t q) {
-    const uint8_t check[] = {2, 1, (uint8_t)(2 * p), 3, 3, (uint8_t)(2 * q), 5};
+/* A check of two triple patterns, ?0 p ?1 and ?1 q ?2. */
+enum { CHECK_BYTES = 7 };
+
+/* The number that is returned for a plan, or -1 where the engine and the reference disagree. */
+static int planned(size_t used, const uint8_t check[CHECK_BYTES]) {
     uint8_t plan[16] = {0}, other[16] = {0};
     uint64_t answer[4] = {0}, wanted[4] = {0};
-    const uint32_t number = closing_plan(store, used, check, sizeof check, plan, answer);
-    if (number != reference_plan(store, used, check, sizeof check, other, wanted)) return -1;
+    const uint32_t number = closing_plan(store, used, check, CHECK_BYTES, plan, answer);
+    if (number != reference_plan(store, used, check, CHECK_BYTES, other, wanted)) return -1;
     return memcmp(plan, other, sizeof plan) == 0 && memcmp(answer, wanted, sizeof answer) == 0 ? (int)number : -1;
+}
+
+/* The kind that is told by a plan in written order, 0 where it is refused, or -1 where the engine and the reference disagree. */
+static int told(size_t used, const uint8_t check[CHECK_BYTES]) {
+    static const uint8_t plan[] = {0, 0, 1, 0};
+    uint64_t answer[4] = {0}, wanted[4] = {0};
+    const uint32_t number = closing_whether(store, used, check, CHECK_BYTES, plan, sizeof plan, answer);
+    if (number != reference_whether(store, used, check, CHECK_BYTES, plan, sizeof plan, wanted)) return -1;
+    return memcmp(answer, wanted, sizeof answer) == 0 ? (int)answer[0] : -1;
 }
 
 int main(void) {
     static const uint32_t terms[] = {20, 100, 300, 1000, 5000, 65536};
     uint64_t answer[4], wanted[4];
-    long made = 0, refused = 0;
+    long made = 0, refused = 0, yes = 0, no = 0;
     for (uint32_t n = 0; n < SITES; n++) {
         const uint32_t predicates = 1 + random_below(MOST_PREDICATES), t = n % 3 == 0 ? random_below(1001) : 1000;
         make_site(predicates, terms[n % 6]);
@@ -71,12 +82,17 @@ int main(void) {
             const size_t at = random_below((uint32_t)used);
             const uint32_t kept = store[at];
             if (damage > 0) store[at] = damage % 2 == 0 ? kept + 1 : random_below(70000);
-            const int number = planned(used, 1 + random_below(predicates), 1 + random_below(predicates));
+            const uint32_t p = 1 + random_below(predicates), q = 1 + random_below(predicates);
+            const uint8_t check[CHECK_BYTES] = {2, 1, (uint8_t)(2 * p), 3, 3, (uint8_t)(2 * q), 5};
+            const int number = planned(used, check), kind = told(used, check);
             if (number < 0) return printf("site %u, word %u: the plans differ\n", (unsigned)n, (unsigned)at), 1;
+            if (kind < 0) return printf("site %u, word %u: what is told differs\n", (unsigned)n, (unsigned)at), 1;
             *(number == 0 ? &made : &refused) += 1;
+            yes += kind == CLOSING_YES;
+            no += kind == CLOSING_NO;
             store[at] = kept;
         }
     }
-    printf("%d large sites: %ld plans and %ld refusals are the reference's\n", SITES, made, refused);
-    return made < SITES || refused < SITES;
+    printf("%d large sites: %ld plans (%ld yes, %ld no) and %ld refusals are the reference's\n", SITES, made, yes, no, refused);
+    return made < SITES || refused < SITES || yes == 0 || no == 0;
 }

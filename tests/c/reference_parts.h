@@ -7,7 +7,7 @@
 
 enum { MOST_PREDICATES = 16, MOST_ROWS = 1024, MOST_TRIPLES = 8, MOST_VARIABLES = 8, KINDS = 3, MOST_TERM = 65535, MOST_THRESHOLD = 1000 };
 
-enum { ROWS = 1, NONE = 2, BUILT = 3, PLAN = 4 };
+enum { ROWS = 1, NONE = 2, BUILT = 3, PLAN = 4, YES = 5, NO = 6 };
 
 struct bytes {
     const uint8_t *data;

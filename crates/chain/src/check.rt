@@ -20,6 +20,8 @@ fn is_refused(answer: Answer) -> bool
         Answer::None => false,
         Answer::Built(_) => false,
         Answer::Plan => false,
+        Answer::Yes => false,
+        Answer::No => false,
         Answer::Refused(_) => true,
     }
 }

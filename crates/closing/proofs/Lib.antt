@@ -1,4 +1,4 @@
 -- Laws that the proofs of this crate cite.
 pub mod Checks
-pub mod Runs
+pub mod GivenPlans
 pub mod Reported

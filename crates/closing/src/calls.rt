@@ -1,6 +1,6 @@
 ghost use mathlib.Core.Path.{_≡_};
 ghost use mathlib.Core.List.{[]};
-ghost use Rattle.model.specs.Calls.{outcome, checked as checkReply, withPlan, build as buildOutcome, plan as planAnswer, run as runOutcome};
+ghost use Rattle.model.specs.Calls.{outcome, checked as checkReply, withPlan, build as buildOutcome, plan as planAnswer, run as runOutcome, whether as whetherAnswer};
 ghost use Rattle.model.specs.declared.answer.Answer.the-variants.{Refused};
 ghost use Rattle.closing.specs.Checks.{CheckedAs};
 use building::builder::fill_store;
@@ -11,8 +11,8 @@ use patterns::pattern_reader::PatternRead;
 use patterns::pattern_reader::pattern_refused;
 use patterns::pattern_reader::read_pattern;
 use planning::planner::plan_pattern;
-use plans::plan_reader::read_plan;
-use running::counts::none_by_counts;
+use running::decider::plan_has_solution;
+use running::preparing::prepare;
 use running::runner::run_plan;
 use site_reading::site_reader::SiteRead;
 use site_reading::site_reader::read_site;
@@ -83,16 +83,43 @@ pub fn run(store: &[u32], pattern: &[u8], plan: &[u8], rows: &mut [u32]) -> Answ
     if check_refusal != 0 {
         return Answer::Refused(check_refusal);
     }
-    let accepted = check.pattern;
-    let given = read_plan(store, accepted, plan);
+    let subjects = check.subjects;
+    let objects = check.objects;
+    let mut steps = [0u32; 32];
+    let given = prepare(store, check.pattern, &subjects, &objects, plan, &mut steps);
     let plan_refusal = given.refusal;
     if plan_refusal != 0 {
         return Answer::Refused(plan_refusal);
     }
-    if none_by_counts(store, accepted) {
+    if given.empty {
         return Answer::None;
+    }
+    run_plan(store, &mut steps, given.count, given.width, rows)
+}
+
+// Tells whether a check over a store has a solution, by a given plan: Yes or No, or a refusal 10 to 20. The first solution ends it.
+pub fn whether(store: &[u32], pattern: &[u8], plan: &[u8]) -> Answer
+    ensures { λ r. ⌜ r ≡ whetherAnswer (now (store .entry)) (now (pattern .entry)) (now (plan .entry)) ⌝ }
+{
+    let check = checked(store, pattern);
+    let check_number = check.refusal;
+    if check_number != 0 {
+        return Answer::Refused(check_number);
     }
     let subjects = check.subjects;
     let objects = check.objects;
-    run_plan(store, accepted, &subjects, &objects, given.plan, rows)
+    let mut steps = [0u32; 32];
+    let asked = prepare(store, check.pattern, &subjects, &objects, plan, &mut steps);
+    let plan_number = asked.refusal;
+    if plan_number != 0 {
+        return Answer::Refused(plan_number);
+    }
+    if asked.empty {
+        return Answer::No;
+    }
+    if plan_has_solution(store, &mut steps, asked.count) {
+        Answer::Yes
+    } else {
+        Answer::No
+    }
 }

@@ -1,8 +1,10 @@
 ghost use mathlib.Core.Path.{_≡_};
-ghost use Rattle.model.specs.Calls.{seen, seenOf, seenOfPlan, build as buildOutcome, plan as planAnswer, run as runOutcome};
+ghost use mathlib.Core.List.{[]};
+ghost use Rattle.model.specs.Calls.{seen, seenOf, seenOfAnswer, seenOfPlan, build as buildOutcome, plan as planAnswer, run as runOutcome, whether as whetherAnswer};
 use crate::calls::build;
 use crate::calls::plan;
 use crate::calls::run;
+use crate::calls::whether;
 use reporting::report::report;
 
 // `build` for C: returns 0, or the refusal's number and then neither the store nor the answer is altered.
@@ -53,4 +55,18 @@ pub extern "C" fn closing_run(
 {
     let found = run(store, pattern, plan, rows);
     report(found, 0, answer)
+}
+
+// `whether` for C: returns 0, or the refusal's number and then the answer is not altered.
+#[no_mangle]
+pub extern "C" fn closing_whether(
+    store: &[u32],
+    pattern: &[u8],
+    plan: &[u8],
+    answer: &mut [u64; 4],
+) -> u32
+    ensures { λ r. ⌜ seen r [] (now (answer .exit)) ≡ seenOfAnswer (whetherAnswer (now (store .entry)) (now (pattern .entry)) (now (plan .entry))) (now (answer .entry)) ⌝ }
+{
+    let told = whether(store, pattern, plan);
+    report(told, 0, answer)
 }

@@ -13,7 +13,7 @@ use Rattle.model.specs.Chain.{chainRowWords, chain}
 use Rattle.model.specs.Files.{takenSize}
 use Rattle.model.specs.Text.{printed, RowsFit, screen}
 use Rattle.model.specs.declared.answer.Answer.{Answer}
-use Rattle.model.specs.declared.answer.Answer.the-variants.{Rows, None, Built, Refused}
+use Rattle.model.specs.declared.answer.Answer.the-variants.{Rows, None, Built, Yes, No, Refused}
 use Rattle.model.specs.declared.answer.Answer.the-variants.{Plan as PlanAnswer}
 
 module _ {size : ℕ} (out : List ℕ) {text : List ℕ} (made : (size ≡ length text) × (take size out ≡ text)) where
@@ -29,6 +29,8 @@ as-many-fit (Rows count width) memory other e h = (omega (arith, h .0), h .1, h 
 as-many-fit None memory other e h = tt
 as-many-fit (Built words) memory other e h = tt
 as-many-fit PlanAnswer memory other e h = tt
+as-many-fit Yes memory other e h = tt
+as-many-fit No memory other e h = tt
 as-many-fit (Refused n) memory other e h = tt
 
 -- what is taken stands in the buffer

@@ -9,11 +9,11 @@ use Rattle.model.specs.SiteFile.{readSite}
 use Rattle.model.specs.PatternFile.{readPattern}
 use Rattle.model.specs.Plan.{Plan}
 use Rattle.model.specs.Join.{Partial, joined}
-use Rattle.model.specs.Calls.{outcome, build, plan, run}
+use Rattle.model.specs.Calls.{outcome, build, plan, run, whether}
 use Rattle.model.specs.Chain.{chain}
 use Rattle.model.specs.declared.answer.Answer.the-variants.{Rows, None, Built, Refused}
 use Rattle.model.specs.declared.answer.Answer.the-variants.{Plan as PlanAnswer}
-use Rattle.model.proofs.Cases.{shop, check, lent, stored, unstored, planOutcome, siteIn, patternIn, shown, Case, Hold, computing}
+use Rattle.model.proofs.Cases.{shop, check, lent, stored, unstored, planOutcome, answered, siteIn, patternIn, shown, Case, Hold, computing}
 
 -- bytes, and the number of the question that is answered no
 abbrev pub Refusal : Type 0
@@ -139,11 +139,12 @@ refusedChecks =
     ∷ (0x02 ∷ 0x01 ∷ 0x04 ∷ 0x80 ∷ 0x80 ∷ 0x08 ∷ 0x01 ∷ 0x03 ∷ [], 15)
     ∷ []
 
--- by both calls that are given a check
+-- by each call that is given a check
 abbrev pub checkRefusals : Refusal → List Case
 checkRefusals c =
     (planOutcome (plan oneEmptyWords (c .0)), outcome (Refused (c .1)) (replicate 17 0))
     ∷ (run oneEmptyWords (c .0) [] (lent 4), outcome (Refused (c .1)) (lent 4))
+    ∷ (answered (whether oneEmptyWords (c .0) []), answered (Refused (c .1)))
     ∷ []
 
 pub checks-refused : Hold (concatMap checkRefusals refusedChecks)
@@ -174,10 +175,14 @@ refusedPlans =
     ∷ (0x00 ∷ 0x01 ∷ 0x00 ∷ [], 20)
     ∷ []
 
-abbrev pub planRefusal : Refusal → Case
-planRefusal c = (run (stored 1000) check (c .0) (lent 3), outcome (Refused (c .1)) (lent 3))
+-- by each call that is given a plan
+abbrev pub planRefusals : Refusal → List Case
+planRefusals c =
+    (run (stored 1000) check (c .0) (lent 3), outcome (Refused (c .1)) (lent 3))
+    ∷ (answered (whether (stored 1000) check (c .0)), answered (Refused (c .1)))
+    ∷ []
 
-pub plans-refused : Hold (map planRefusal refusedPlans)
+pub plans-refused : Hold (concatMap planRefusals refusedPlans)
 unfolding computing
 plans-refused = refl
 

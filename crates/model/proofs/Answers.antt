@@ -1,11 +1,11 @@
--- Each call answers as it may; and None, of a run and of the chain, is only said of a site that was read whole.
+-- Each call answers as it may; and None, of a run and of the chain, and No are only said of a site that was read whole.
 use Prim.Native.Nat.{ℕ, _*_}
 use native.Mathlib.Omega.{arith}
 use mathlib.Core.Path.{_≡_, refl, sym, ap, _∙_, subst}
 use mathlib.Core.Logic.{inl, inr}
 use mathlib.Core.Bool.{true}
 use mathlib.Core.Option.{Option, Option·getD}
-use mathlib.Core.List.{List, [], _∷_, List·Memᴰ·not-nil}
+use mathlib.Core.List.{List, [], _∷_, List·Memᴰ·head, List·Memᴰ·not-nil}
 use lib.ListN.{length, replicate}
 use lib.Dec.{leb}
 use borrow.Author.Tests.{leb-true}
@@ -18,17 +18,18 @@ use Rattle.model.specs.Tables.{at, mostThreshold}
 use Rattle.model.specs.Store.{layout, Holds, Store, storeAt}
 use Rattle.model.specs.Pattern.{width}
 use Rattle.model.specs.Solutions.{IsSolution, solutions}
-use Rattle.model.specs.Calls.{Outcome, over, unaltered, build, plan, rowsOutcome, run}
-use Rattle.model.specs.Answers.{BuildAnswer, Accepted, PlanCallAnswer, RunAnswer}
+use Rattle.model.specs.Calls.{Outcome, over, unaltered, build, plan, rowsOutcome, run, yesOrNo, whether}
+use Rattle.model.specs.Answers.{BuildAnswer, Accepted, PlanCallAnswer, RunAnswer, WhetherAnswer}
 use Rattle.model.specs.Chain.{chainThreshold, chainStoreWords, isRefused, unlessRefused, stepBytes, planAndRun, chain, NoMatch}
-use Rattle.model.specs.declared.answer.Answer.the-variants.{None, Refused}
+use Rattle.model.specs.declared.answer.Answer.{Answer}
+use Rattle.model.specs.declared.answer.Answer.the-variants.{None, No, Refused}
 use Rattle.model.specs.declared.answer.Planned.{Planned}
-use Rattle.model.proofs.Solutions.{solutions-complete}
+use Rattle.model.proofs.Solutions.{solutions-sound, solutions-complete}
 use Rattle.model.proofs.Stores.{store-complete, built-holds}
 use Rattle.model.proofs.SiteFile.{site-file}
 use Rattle.model.proofs.PatternFile.{pattern-accepted}
 use Rattle.model.proofs.Refusals.{site-refuses}
-use Rattle.model.proofs.Calls.{by-reply, by-question, by-check, by-run, wider}
+use Rattle.model.proofs.Calls.{by-reply, by-question, by-check, by-given, by-run, wider}
 
 pub build-answers : (t : ℕ) (bytes memory : List ℕ) → BuildAnswer t bytes memory (build t bytes memory)
 unfolding build
@@ -45,24 +46,36 @@ plan-answers words bytes =
     by-check (PlanCallAnswer words bytes) _ words bytes _ (λ n between. inl (n, between, refl)) λ c. inr (c, refl)
 
 -- the last questions, of an accepted check
-module _ (words bytes memory : List ℕ) (c : Accepted words bytes) where
+module _ (words bytes : List ℕ) (c : Accepted words bytes) where
   none-left : solutions (c .store .site) (c .pattern) ≡ [] → (row : List ℕ) → IsSolution (c .store .site) (c .pattern) row → ⊥
   none-left e row s =
       List·Memᴰ·not-nil
       (subst (λ rows. row ∈ rows) e
       (solutions-complete (c .store .site) (c .pattern) (pattern-accepted (c .store .site) bytes (c .pattern) (c .read)) row s))
 
-  by-rows : (rows : List (List ℕ)) → solutions (c .store .site) (c .pattern) ≡ rows → RunAnswer words bytes memory (rowsOutcome (width (c .pattern)) rows memory)
+  by-rows : (memory : List ℕ) (rows : List (List ℕ)) → solutions (c .store .site) (c .pattern) ≡ rows
+      → RunAnswer words bytes memory (rowsOutcome (width (c .pattern)) rows memory)
   unfolding rowsOutcome
-  by-rows [] e = inr (inl (c, refl, none-left e))
-  by-rows (r ∷ rs) e =
+  by-rows memory [] e = inr (inl (c, refl, none-left e))
+  by-rows memory (r ∷ rs) e =
       by-question (RunAnswer words bytes memory) (unaltered memory) 21 (leb (length (r ∷ rs) * width (c .pattern)) (length memory)) _ (inl (21, omega arith, refl))
       λ _. inr (inr (c, rw e (omega arith), rw e refl))
+
+  by-first : (rows : List (List ℕ)) → solutions (c .store .site) (c .pattern) ≡ rows → WhetherAnswer words bytes (yesOrNo rows)
+  unfolding yesOrNo
+  by-first [] e = inr (inr (c, refl, none-left e))
+  by-first (r ∷ rs) e = inr (inl (c, refl, (r, solutions-sound (c .store .site) (c .pattern) r (rw e (List·Memᴰ·head refl)))))
 
 pub run-answers : (words bytes steps memory : List ℕ) → RunAnswer words bytes memory (run words bytes steps memory)
 run-answers words bytes steps memory =
     by-run (RunAnswer words bytes memory) words bytes steps memory (λ n between. inl (n, wider 10 21 (omega arith) (omega arith) between, refl))
-    λ c. by-rows words bytes memory c (solutions (c .store .site) (c .pattern)) refl
+    λ c. by-rows words bytes c memory (solutions (c .store .site) (c .pattern)) refl
+
+pub whether-answers : (words bytes steps : List ℕ) → WhetherAnswer words bytes (whether words bytes steps)
+unfolding whether
+whether-answers words bytes steps =
+    by-given (WhetherAnswer words bytes) Refused words bytes steps _ (λ n between. inl (n, between, refl))
+    λ c. by-first words bytes c (solutions (c .store .site) (c .pattern)) refl
 
 refused-not-none : {X : Type 0} {n : ℕ} → Refused n ≡ None → X
 refused-not-none h = let z : _≡_ {A = ℕ} 0 1 = cc in absurd (omega arith)
@@ -76,6 +89,16 @@ run-none words bytes steps memory h = go (run-answers words bytes steps memory) 
     go (inl x) k = let e = x .2 in let z : _≡_ {A = ℕ} 0 1 = cc in absurd (omega arith)
     go (inr (inl x)) k = (x .0, x .2)
     go (inr (inr x)) k = let e = x .2 in let z : _≡_ {A = ℕ} 0 1 = cc in absurd (omega arith)
+
+pub whether-no : (words bytes steps : List ℕ) → whether words bytes steps ≡ No
+    → (c : Accepted words bytes) × ((row : List ℕ) → IsSolution (c .store .site) (c .pattern) row → ⊥)
+whether-no words bytes steps h = go (whether-answers words bytes steps) h
+  where
+    go : {answer : Answer} → WhetherAnswer words bytes answer → answer ≡ No
+        → (c : Accepted words bytes) × ((row : List ℕ) → IsSolution (c .store .site) (c .pattern) row → ⊥)
+    go (inl x) k = let e = x .2 in let z : _≡_ {A = ℕ} 0 1 = cc in absurd (omega arith)
+    go (inr (inl x)) k = let e = x .1 in let z : _≡_ {A = ℕ} 0 1 = cc in absurd (omega arith)
+    go (inr (inr x)) k = (x .0, x .2)
 
 pub chain-none : (file check memory : List ℕ) → areBytes file ≡ true → chain file check memory .answer ≡ None → NoMatch file check
 unfolding chain isRefused planAndRun

@@ -20,7 +20,7 @@ use Rattle.model.specs.Plan.{qualifies, reducedTable}
 use Rattle.model.specs.PlanFile.{readPlan}
 use Rattle.model.specs.Solutions.{solutions}
 use Rattle.model.specs.Answers.{Between, Accepted}
-use Rattle.model.specs.Calls.{Outcome, outcome, either, question, storeReply, unaltered, Check, checkOf, checked, emptyAgainst, noneByCounts, EmptyFor, rowsOutcome, run}
+use Rattle.model.specs.Calls.{Outcome, outcome, either, question, storeReply, unaltered, Check, checkOf, checked, givenPlan, emptyAgainst, noneByCounts, EmptyFor, rowsOutcome, run}
 use Rattle.model.specs.declared.answer.Answer.the-variants.{None}
 use Rattle.model.proofs.Booleans.{and-cases, and-make, or-cases, or-right}
 use Rattle.model.proofs.Membership.{no-element, into-any, from-any}
@@ -111,6 +111,21 @@ by-check {B} P refusal words bytes next f g = go (storeOf words) refl
     go none e = f 10 (omega arith)
     go (some store) e = read store e (readPattern (store .site) bytes) refl
 
+-- what follows questions 10 to 20 is asked of one too
+pub by-given : {B : Type 0} (P : B → Type 0) (refusal : ℕ → B) (words bytes steps : List ℕ) (next : Check → B)
+    → ((n : ℕ) → Between 10 20 n → P (refusal n))
+    → ((a : Accepted words bytes) → P (next (checkOf (a .store) (a .pattern))))
+    → P (either refusal (givenPlan words bytes steps) next)
+unfolding either givenPlan
+by-given P refusal words bytes steps next f g =
+    by-check Then refused words bytes _ (λ n between. f n (wider 10 20 (omega arith) (omega arith) between))
+    λ a. by-reply Then refused (readPlan (a .store) (a .pattern) steps) _
+    (λ n e. f n (wider 10 20 (omega arith) (omega arith) (plan-refuses (a .store) (a .pattern) steps .number-between n e)))
+    λ _ _. g a
+  where
+    Then : Reply Check → Type 0
+    Then reply = P (either refusal reply next)
+
 -- None from the counts is what the solutions give as well
 pub counts-agree : (site : Site) (pattern : Pattern) → isAccepted site pattern ≡ true → (memory : List ℕ)
     → cond (noneByCounts site pattern) (outcome None memory) (rowsOutcome (width pattern) (solutions site pattern) memory)
@@ -130,10 +145,8 @@ pub by-run : (P : Outcome → Type 0) (words bytes steps memory : List ℕ)
     → P (run words bytes steps memory)
 unfolding run
 by-run P words bytes steps memory f g =
-    by-check P (unaltered memory) words bytes _ (λ n between. f n (wider 10 20 (omega arith) (omega arith) between))
-    λ a. by-reply P (unaltered memory) (readPlan (a .store) (a .pattern) steps) _
-    (λ n e. f n (wider 10 20 (omega arith) (omega arith) (plan-refuses (a .store) (a .pattern) steps .number-between n e)))
-    λ _ _. rw (counts-agree (a .store .site) (a .pattern) (pattern-accepted (a .store .site) bytes (a .pattern) (a .read)) memory) (g a)
+    by-given P (unaltered memory) words bytes steps _ f
+    λ a. rw (counts-agree (a .store .site) (a .pattern) (pattern-accepted (a .store .site) bytes (a .pattern) (a .read)) memory) (g a)
 
 -- the pattern is accepted in the store's site
 pub check-accepted : (words bytes : List ℕ) (c : Check) → checked words bytes ≡ gives c → isAccepted (c .store .site) (c .pattern) ≡ true

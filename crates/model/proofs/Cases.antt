@@ -1,4 +1,4 @@
--- The worked shop: cases (a) to (j) of document 01 as one list, by computation.
+-- The worked shop: cases (a) to (j) of document 01 as one list, by computation; and what S-7's call says of each check.
 use Prim.Native.Nat.{ℕ}
 use mathlib.Core.Path.{_≡_, refl}
 use mathlib.Core.List.{List, [], _∷_, _++_, map}
@@ -17,10 +17,11 @@ use Rattle.model.specs.PlanFile.{step, readPlan}
 use Rattle.model.specs.Planner.{tableRows, chooseTable, isJoined, termCount, chosenRows, beats, competitors, pick, order, planned}
 use Rattle.model.specs.Solutions.{terms, rowsOver, isSolution, solutions}
 use Rattle.model.specs.Join.{extend, joinTable, joined, joinRows}
-use Rattle.model.specs.Calls.{Outcome, outcome, either, build, checked, plan, noneByCounts, rowsOutcome, run, numberOf, valuesOf, planBytesOf, seenOf, seenOfPlan}
+use Rattle.model.specs.Calls.{Outcome, outcome, either, build, checked, givenPlan, plan, noneByCounts, rowsOutcome, run, yesOrNo, whether, numberOf, valuesOf, planBytesOf, seenOf, seenOfPlan}
 use Rattle.model.specs.Chain.{isRefused, planAndRun, chain}
 use Rattle.model.specs.Text.{decimalWithin, decimal, spaced, rowLine, firstLine, rowLines, printed}
-use Rattle.model.specs.declared.answer.Answer.the-variants.{Rows, None, Built, Refused}
+use Rattle.model.specs.declared.answer.Answer.{Answer}
+use Rattle.model.specs.declared.answer.Answer.the-variants.{Rows, None, Built, Yes, No, Refused}
 use Rattle.model.specs.declared.answer.Answer.the-variants.{Plan as PlanAnswer}
 use Rattle.model.specs.declared.answer.Planned.{Planned}
 
@@ -78,6 +79,10 @@ writtenPlan = 0x00 ∷ 0x00 ∷ 0x01 ∷ 0x00 ∷ 0x02 ∷ 0x00 ∷ []
 abbrev pub planOutcome : Planned → Outcome
 planOutcome p = outcome (p .answer) (p .plan .steps ++ p .plan .count ∷ [])
 
+-- an answer beside which no memory is lent
+abbrev pub answered : Answer → Outcome
+answered answer = outcome answer []
+
 abbrev pub siteIn : Reply Site → Site
 siteIn (refused n) = []
 siteIn (gives site) = site
@@ -112,7 +117,7 @@ Hold cases = map (λ c. c .0) cases ≡ map (λ c. c .1) cases
 
 -- unfolds with all that a case computes
 unfoldable pub computing : Unit {0}
-unfolding after ask repeated wholeFile numberWithin numberIn number isSite facts isFact declaration row tables siteFile readSite vp semiJoin isStored semiJoins storedRows semiJoinEntries layout tablesIn decoded isStoreOf storeOf variables width fullTable askPosition askPredicate triplePattern patternFile readPattern qualifies reducedTable chosenTable mayChoose step readPlan tableRows chooseTable isJoined termCount chosenRows beats competitors pick order planned terms rowsOver isSolution solutions extend joinTable joined joinRows either build checked plan noneByCounts rowsOutcome run numberOf valuesOf planBytesOf isRefused planAndRun chain decimalWithin decimal spaced rowLine firstLine rowLines printed
+unfolding after ask repeated wholeFile numberWithin numberIn number isSite facts isFact declaration row tables siteFile readSite vp semiJoin isStored semiJoins storedRows semiJoinEntries layout tablesIn decoded isStoreOf storeOf variables width fullTable askPosition askPredicate triplePattern patternFile readPattern qualifies reducedTable chosenTable mayChoose step readPlan tableRows chooseTable isJoined termCount chosenRows beats competitors pick order planned terms rowsOver isSolution solutions extend joinTable joined joinRows either build checked givenPlan plan noneByCounts rowsOutcome run yesOrNo whether numberOf valuesOf planBytesOf isRefused planAndRun chain decimalWithin decimal spaced rowLine firstLine rowLines printed
 computing = tt
 
 abbrev pub cases : List Case
@@ -151,9 +156,16 @@ cases =
           (record { place = 0; choice = 0 } ∷ record { place = 1; choice = 0 } ∷ record { place = 2; choice = 0 } ∷ [])),
       outcome PlanAnswer (11 ∷ 21 ∷ 30 ∷ []),
     )
+    ∷ (answered (whether (stored 1000) check chosenPlan), answered Yes)
+    ∷ (answered (whether (stored 1000) check writtenPlan), answered Yes)
+    ∷ (told (answered Yes), outcome Yes (0 ∷ 5 ∷ 0 ∷ 0 ∷ 0 ∷ []))
     -- (d) first choice 7 at place 0: 20; place 0 twice: 19
     ∷ (run (stored 1000) check (0x00 ∷ 0x07 ∷ 0x01 ∷ 0x00 ∷ 0x02 ∷ 0x00 ∷ []) (lent 3), outcome (Refused 20) (7 ∷ 7 ∷ 7 ∷ []))
     ∷ (run (stored 1000) check (0x00 ∷ 0x00 ∷ 0x00 ∷ 0x00 ∷ 0x02 ∷ 0x00 ∷ []) (lent 3), outcome (Refused 19) (7 ∷ 7 ∷ 7 ∷ []))
+    ∷ (answered (whether (stored 1000) check (0x00 ∷ 0x07 ∷ 0x01 ∷ 0x00 ∷ 0x02 ∷ 0x00 ∷ [])), answered (Refused 20))
+    ∷ (told (answered (Refused 20)), outcome (Refused 20) (20 ∷ lent 4))
+    ∷ (answered (whether (stored 1000) check (0x00 ∷ 0x00 ∷ 0x00 ∷ 0x00 ∷ 0x02 ∷ 0x00 ∷ [])), answered (Refused 19))
+    ∷ (told (answered (Refused 19)), outcome (Refused 19) (19 ∷ lent 4))
     -- (e) a site of no bytes: 2; of no predicates: 3 words, and then a pattern on predicate 1: 14; a store of zeros: 10
     ∷ (build 1000 [] (lent 4), outcome (Refused 2) (7 ∷ 7 ∷ 7 ∷ 7 ∷ []))
     ∷ (build 1000 (0x00 ∷ []) (lent 4), outcome (Built 3) (0 ∷ 1000 ∷ 3 ∷ 7 ∷ []))
@@ -170,12 +182,20 @@ cases =
       outcome (Refused 10) (0 ∷ 0 ∷ 0 ∷ 0 ∷ 0 ∷ 0 ∷ 0 ∷ 0 ∷ 0 ∷ 0 ∷ 0 ∷ 0 ∷ 0 ∷ 0 ∷ 0 ∷ 0 ∷ 0 ∷ []),
     )
     ∷ (run (replicate 84 0) check chosenPlan (lent 3), outcome (Refused 10) (7 ∷ 7 ∷ 7 ∷ []))
+    ∷ (answered (whether (0 ∷ 1000 ∷ 3 ∷ []) (0x01 ∷ 0x01 ∷ 0x02 ∷ 0x03 ∷ []) (0x00 ∷ 0x00 ∷ [])), answered (Refused 14))
+    ∷ (told (answered (Refused 14)), outcome (Refused 14) (14 ∷ lent 4))
+    ∷ (answered (whether (replicate 84 0) check chosenPlan), answered (Refused 10))
+    ∷ (told (answered (Refused 10)), outcome (Refused 10) (10 ∷ lent 4))
     -- (f) 10 covers 20, and 10 covers 21
     ∷ (run (stored 1000) (0x01 ∷ 0x14 ∷ 0x02 ∷ 0x28 ∷ []) (0x00 ∷ 0x00 ∷ []) (lent 1), outcome (Rows 1 0) (7 ∷ []))
     ∷ (run (stored 1000) (0x01 ∷ 0x14 ∷ 0x02 ∷ 0x2A ∷ []) (0x00 ∷ 0x00 ∷ []) (lent 1), outcome None (7 ∷ []))
+    ∷ (answered (whether (stored 1000) (0x01 ∷ 0x14 ∷ 0x02 ∷ 0x28 ∷ []) (0x00 ∷ 0x00 ∷ [])), answered Yes)
+    ∷ (answered (whether (stored 1000) (0x01 ∷ 0x14 ∷ 0x02 ∷ 0x2A ∷ []) (0x00 ∷ 0x00 ∷ [])), answered No)
+    ∷ (told (answered No), outcome No (0 ∷ 6 ∷ 0 ∷ 0 ∷ 0 ∷ []))
     -- (g) ?0 covers ?0
     ∷ (run (stored 1000) (0x01 ∷ 0x01 ∷ 0x02 ∷ 0x01 ∷ []) (0x00 ∷ 0x00 ∷ []) (lent 1), outcome None (7 ∷ []))
     ∷ (told (outcome None (7 ∷ [])), outcome None (0 ∷ 2 ∷ 0 ∷ 0 ∷ 0 ∷ 7 ∷ []))
+    ∷ (answered (whether (stored 1000) (0x01 ∷ 0x01 ∷ 0x02 ∷ 0x01 ∷ []) (0x00 ∷ 0x00 ∷ [])), answered No)
     -- (h) a cross join
     ∷ (
       run (stored 1000) (0x02 ∷ 0x01 ∷ 0x04 ∷ 0x3C ∷ 0x03 ∷ 0x06 ∷ 0x52 ∷ []) (0x00 ∷ 0x00 ∷ 0x01 ∷ 0x00 ∷ []) (lent 5),
@@ -185,6 +205,10 @@ cases =
     ∷ (
       run (stored 1000) (0x02 ∷ 0x01 ∷ 0x04 ∷ 0x03 ∷ 0x03 ∷ 0x02 ∷ 0x05 ∷ []) (0x00 ∷ 0x00 ∷ 0x01 ∷ 0x00 ∷ []) (lent 3),
       outcome None (7 ∷ 7 ∷ 7 ∷ []),
+    )
+    ∷ (
+      answered (whether (stored 1000) (0x02 ∷ 0x01 ∷ 0x04 ∷ 0x03 ∷ 0x03 ∷ 0x02 ∷ 0x05 ∷ []) (0x00 ∷ 0x00 ∷ 0x01 ∷ 0x00 ∷ [])),
+      answered No,
     )
     -- (j) no triple patterns: 12; a number that is not in shortest form: 2
     ∷ (

@@ -25,7 +25,7 @@ use Rattle.model.specs.Solutions.{solutions}
 use Rattle.model.specs.Calls.{Outcome, outcome, either, build, checked, padded, planNumbers, plan, rowsOutcome}
 use Rattle.model.specs.Chain.{chainThreshold, chainStoreWords, isRefused, unlessRefused, stepBytes, planAndRun, chain}
 use Rattle.model.specs.declared.answer.Answer.{Answer}
-use Rattle.model.specs.declared.answer.Answer.the-variants.{Rows, None, Built, Refused}
+use Rattle.model.specs.declared.answer.Answer.the-variants.{Rows, None, Built, Yes, No, Refused}
 use Rattle.model.specs.declared.answer.Answer.the-variants.{Plan as PlanAnswer}
 use Rattle.model.proofs.Booleans.{and-cases}
 use Rattle.model.proofs.Patterns.{pattern-limit}
@@ -93,7 +93,6 @@ module _ (store : Store) (pattern : Pattern) (few : length pattern ≤ mostTripl
 
 -- ---- the chain
 
--- what a refusal is, whatever would come next
 -- a refusal, and no other answer
 pub refused-exactly : (answer : Answer) → (isRefused answer ≡ true) ↔ ((n : ℕ) × (answer ≡ Refused n))
 unfolding isRefused
@@ -104,8 +103,11 @@ refused-exactly answer = (from answer, λ r. rw (r .1) refl)
     from None h = absurd (false≢true h)
     from (Built words) h = absurd (false≢true h)
     from PlanAnswer h = absurd (false≢true h)
+    from Yes h = absurd (false≢true h)
+    from No h = absurd (false≢true h)
     from (Refused n) h = (n, refl)
 
+-- whatever would come next
 refused-chain : (n : ℕ) (memory : List ℕ) (next : Outcome) (answer : Answer) → answer ≡ Refused n → unlessRefused answer memory next ≡ outcome (Refused n) memory
 unfolding isRefused
 refused-chain n memory next answer e = rw e refl
@@ -143,4 +145,4 @@ module _ (file check memory : List ℕ) (site : Site) (whole : readSite file ≡
       let proper = planned-proper store pattern in
       let back = plan-file store pattern few .1 (planned store pattern) proper .1 in
       rw (plan-succeeds words check chainThreshold site pattern holds read, proper-bytes store pattern few (planned store pattern) proper)
-      (run-succeeds words check chainThreshold site pattern holds read (planBytes (planned store pattern)) memory (planned store pattern) back)
+      (run-succeeds words check chainThreshold site pattern holds read (planBytes (planned store pattern)) (planned store pattern) back memory)

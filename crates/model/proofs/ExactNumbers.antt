@@ -2,7 +2,7 @@
 use Prim.Native.Nat.{ℕ, _≤_, _<_}
 use native.Mathlib.Omega.{arith}
 use mathlib.Core.Path.{_≡_, refl, subst}
-use mathlib.Core.Logic.{_⊎_, inl, inr, ⊎-elim, _↔_}
+use mathlib.Core.Logic.{_⊎_, inl, inr, ⊎-elim, _↔_, Iff·trans}
 use mathlib.Core.Bool.{Bool, true}
 use mathlib.Core.List.{List, _∷_, _++_}
 use Rattle.model.specs.Reader.{refused, gives, Reader}
@@ -14,8 +14,8 @@ use Rattle.model.specs.Pattern.{Pattern, isAccepted}
 use Rattle.model.specs.PatternFile.{patternFile, readPattern, patternBytes}
 use Rattle.model.specs.PlanFile.{readPlan}
 use Rattle.model.specs.Answers.{Between}
-use Rattle.model.specs.Calls.{build, plan, run}
-use Rattle.model.specs.Questions.{Begins, GoesOn, NoRoom, RowsExceed, DeclarationRefused, RowRefused, SiteRefused, PositionRefused, PredicateRefused, TripleRefused, PatternRefused, PlanRefused, BuildRefused, CheckRefused, RunRefused}
+use Rattle.model.specs.Calls.{build, plan, run, whether}
+use Rattle.model.specs.Questions.{Begins, GoesOn, NoRoom, RowsExceed, DeclarationRefused, RowRefused, SiteRefused, PositionRefused, PredicateRefused, TripleRefused, PatternRefused, PlanRefused, BuildRefused, CheckRefused, GivenPlanRefused, RunRefused}
 use Rattle.model.specs.Questions.DeclarationRefused.{predicate-not-whole, predicate-not-above, count-not-whole, total-too-large}
 use Rattle.model.specs.Questions.RowRefused.{subject-not-whole, subject-no-term, object-not-whole, object-no-term, row-not-above}
 use Rattle.model.specs.Questions.SiteRefused.{predicates-not-whole, predicates-too-many, declaration-refused, row-refused, site-not-ended}
@@ -25,14 +25,15 @@ use Rattle.model.specs.Questions.TripleRefused.{no-subject, subject-refu
 use Rattle.model.specs.Questions.PatternRefused.{length-not-whole, length-refused, triple-refused, pattern-not-ended}
 use Rattle.model.specs.Questions.BuildRefused.{threshold-too-large, site-refused, store-too-small}
 use Rattle.model.specs.Questions.CheckRefused.{no-store, pattern-refused}
-use Rattle.model.specs.Questions.RunRefused.{check-refused, plan-refused, rows-too-many}
+use Rattle.model.specs.Questions.GivenPlanRefused.{check-refused, plan-refused}
+use Rattle.model.specs.Questions.RunRefused.{given-plan-refused, rows-too-many}
 use Rattle.model.specs.declared.answer.Answer.the-variants.{Refused}
 use Rattle.model.proofs.Stores.{store-complete}
 use Rattle.model.proofs.Refusals.{site-refuses, pattern-refuses, plan-refuses}
 use Rattle.model.proofs.SiteFile.{site-read, site-back}
 use Rattle.model.proofs.PatternFile.{pattern-read, pattern-back}
 use Rattle.model.proofs.RefusedFiles.{site-exactly, pattern-exactly, plan-exactly}
-use Rattle.model.proofs.RefusedCalls.{build-exactly, plan-call-exactly, run-exactly}
+use Rattle.model.proofs.RefusedCalls.{build-exactly, plan-call-exactly, whether-exactly, run-exactly}
 
 -- ---- the numbers of an element
 
@@ -141,7 +142,7 @@ module _ (site : Site) (bytes : List ℕ) where
       to (triple-refused _ _ _ r) e = ⊎-elim (λ m. absurd (omega arith)) (λ m. absurd (omega arith)) (triple-number (r .refusal))
       to (pattern-not-ended {pattern} {b} {rest} h) e = let r = pattern-read site bytes h in (pattern, b, rest, r .0, r .1 .cut are)
 
--- ---- plan and run: 10, 21
+-- ---- over a store: 10, 21
 
 plan-number : (t : ℕ) (site : Site) (pattern : Pattern) (bytes : List ℕ) (n : ℕ) → PlanRefused (storeAt t site) pattern bytes n → Between 18 20 n
 plan-number t site pattern bytes n r = plan-refuses (storeAt t site) pattern bytes .number-between n (plan-exactly (storeAt t site) pattern bytes n .1 r)
@@ -159,24 +160,43 @@ module _ (words bytes : List ℕ) where
   pub plan-ten : (plan words bytes .answer ≡ Refused 10) ↔ (IsStore words → ⊥)
   plan-ten = ((λ h. check-ten (plan-call-exactly words bytes 10 .0 h) refl), λ f. plan-call-exactly words bytes 10 .1 (no-store f))
 
-  module _ (steps memory : List ℕ) where
-    pub run-ten : (run words bytes steps memory .answer ≡ Refused 10) ↔ (IsStore words → ⊥)
-    run-ten = ((λ h. to (run-exactly words bytes steps memory 10 .0 h) refl), λ f. run-exactly words bytes steps memory 10 .1 (check-refused (no-store f)))
+  module _ (steps : List ℕ) where
+    given-ten : GivenPlanRefused words bytes steps 10 ↔ (IsStore words → ⊥)
+    given-ten = ((λ r. to r refl), λ f. check-refused (no-store f))
       where
-        to : {n : ℕ} → RunRefused words bytes steps memory n → n ≡ 10 → IsStore words → ⊥
+        to : {n : ℕ} → GivenPlanRefused words bytes steps n → n ≡ 10 → IsStore words → ⊥
         to (check-refused r) e = check-ten r e
         to (plan-refused {t} {n} {site} {pattern} holds read r) e =
             let b = plan-number t site pattern steps n r in absurd (omega arith)
-        to (rows-too-many r) e = absurd (omega arith)
 
-    pub twenty-one-exactly : (run words bytes steps memory .answer ≡ Refused 21) ↔ RowsExceed words bytes steps memory
-    twenty-one-exactly = ((λ h. to (run-exactly words bytes steps memory 21 .0 h) refl), λ r. run-exactly words bytes steps memory 21 .1 (rows-too-many r))
-      where
-        to : {n : ℕ} → RunRefused words bytes steps memory n → n ≡ 21 → RowsExceed words bytes steps memory
-        to (check-refused r) e = let l = check-below r in absurd (omega arith)
-        to (plan-refused {t} {n} {site} {pattern} holds read r) e =
-            let b = plan-number t site pattern steps n r in absurd (omega arith)
-        to (rows-too-many r) e = r
+    given-below : {n : ℕ} → GivenPlanRefused words bytes steps n → n ≤ 20
+    given-below (check-refused r) = let l = check-below r in omega arith
+    given-below (plan-refused {t} {n} {site} {pattern} holds read r) = plan-number t site pattern steps n r .1
+
+    pub whether-ten : (whether words bytes steps ≡ Refused 10) ↔ (IsStore words → ⊥)
+    whether-ten = Iff·trans (whether-exactly words bytes steps 10) given-ten
+
+    module _ (memory : List ℕ) where
+      -- the questions of a run before 21 are those of whether
+      run-given : (n : ℕ) → n ≤ 20 → (run words bytes steps memory .answer ≡ Refused n) ↔ GivenPlanRefused words bytes steps n
+      run-given n low = ((λ h. to (run-exactly words bytes steps memory n .0 h) low), λ r. run-exactly words bytes steps memory n .1 (given-plan-refused r))
+        where
+          to : {n : ℕ} → RunRefused words bytes steps memory n → n ≤ 20 → GivenPlanRefused words bytes steps n
+          to (given-plan-refused r) l = r
+          to (rows-too-many r) l = absurd (omega arith)
+
+      pub run-ten : (run words bytes steps memory .answer ≡ Refused 10) ↔ (IsStore words → ⊥)
+      run-ten = Iff·trans (run-given 10 (omega arith)) given-ten
+
+      pub twenty-one-exactly : (run words bytes steps memory .answer ≡ Refused 21) ↔ RowsExceed words bytes steps memory
+      twenty-one-exactly = ((λ h. to (run-exactly words bytes steps memory 21 .0 h) refl), λ r. run-exactly words bytes steps memory 21 .1 (rows-too-many r))
+        where
+          to : {n : ℕ} → RunRefused words bytes steps memory n → n ≡ 21 → RowsExceed words bytes steps memory
+          to (given-plan-refused r) e = let l = given-below r in absurd (omega arith)
+          to (rows-too-many r) e = r
+
+      pub same-refusals : (n : ℕ) → n ≤ 20 → (whether words bytes steps ≡ Refused n) ↔ (run words bytes steps memory .answer ≡ Refused n)
+      same-refusals n low = let r = run-given n low in Iff·trans (whether-exactly words bytes steps n) (r .1, r .0)
 
 -- ---- the numbers of a file are those of its reader
 
@@ -211,31 +231,40 @@ module _ {words : List ℕ} {t : ℕ} {site : Site} (holds : Holds words t site)
       λ h. plan-call-exactly words bytes n .1 (from-pattern n h),
     )
 
-    module _ (steps memory : List ℕ) where
-      pub run-numbers : (n : ℕ) → Between 11 17 n → (run words bytes steps memory .answer ≡ Refused n) ↔ (readPattern site bytes ≡ refused n)
-      run-numbers n between = (
-        (λ h. to (run-exactly words bytes steps memory n .0 h) between),
-        λ h. run-exactly words bytes steps memory n .1 (check-refused (from-pattern n h)),
-      )
+    module _ (steps : List ℕ) where
+      given-numbers : (n : ℕ) → Between 11 17 n → GivenPlanRefused words bytes steps n ↔ (readPattern site bytes ≡ refused n)
+      given-numbers n between = ((λ r. to r between), λ h. check-refused (from-pattern n h))
         where
-          to : {n : ℕ} → RunRefused words bytes steps memory n → Between 11 17 n → readPattern site bytes ≡ refused n
+          to : {n : ℕ} → GivenPlanRefused words bytes steps n → Between 11 17 n → readPattern site bytes ≡ refused n
           to (check-refused r) b = check-numbers (b .0) r
           to (plan-refused {t = u} {n} {site = other} {pattern} h e r) b = let c = plan-number u other pattern steps n r in absurd (omega arith)
-          to (rows-too-many r) b = absurd (omega arith)
 
-      pub run-plan-numbers : (n : ℕ) → Between 18 20 n
-          → (run words bytes steps memory .answer ≡ Refused n)
-          ↔ ((pattern : Pattern) × (readPattern site bytes ≡ gives pattern) × (readPlan (storeAt t site) pattern steps ≡ refused n))
-      run-plan-numbers n between = (
-        (λ h. to (run-exactly words bytes steps memory n .0 h) between),
-        λ (x : (pattern : Pattern) × (readPattern site bytes ≡ gives pattern) × (readPlan (storeAt t site) pattern steps ≡ refused n)).
-            run-exactly words bytes steps memory n .1 (plan-refused holds (x .1) (plan-exactly (storeAt t site) (x .0) steps n .0 (x .2))),
+      -- of an accepted pattern, the plan's reader refuses
+      abbrev PlanNumber : ℕ → Type 0
+      PlanNumber n = (pattern : Pattern) × (readPattern site bytes ≡ gives pattern) × (readPlan (storeAt t site) pattern steps ≡ refused n)
+
+      given-plan-numbers : (n : ℕ) → Between 18 20 n → GivenPlanRefused words bytes steps n ↔ PlanNumber n
+      given-plan-numbers n between = (
+        (λ r. to r between),
+        λ (x : PlanNumber n). plan-refused holds (x .1) (plan-exactly (storeAt t site) (x .0) steps n .0 (x .2)),
       )
         where
-          to : {n : ℕ} → RunRefused words bytes steps memory n → Between 18 20 n
-              → (pattern : Pattern) × (readPattern site bytes ≡ gives pattern) × (readPlan (storeAt t site) pattern steps ≡ refused n)
+          to : {n : ℕ} → GivenPlanRefused words bytes steps n → Between 18 20 n → PlanNumber n
           to (check-refused r) b = let c = check-below words bytes r in absurd (omega arith)
           to (plan-refused {t = u} {n} {site = other} {pattern} h e r) b =
               subst (λ (s : Store). (pattern : Pattern) × (readPattern (s .site) bytes ≡ gives pattern) × (readPlan s pattern steps ≡ refused n))
               (same-store h) (pattern, e, plan-exactly (storeAt u other) pattern steps n .1 r)
-          to (rows-too-many r) b = absurd (omega arith)
+
+      module _ (n : ℕ) where
+        pub whether-numbers : Between 11 17 n → (whether words bytes steps ≡ Refused n) ↔ (readPattern site bytes ≡ refused n)
+        whether-numbers between = Iff·trans (whether-exactly words bytes steps n) (given-numbers n between)
+
+        pub whether-plan-numbers : Between 18 20 n → (whether words bytes steps ≡ Refused n) ↔ PlanNumber n
+        whether-plan-numbers between = Iff·trans (whether-exactly words bytes steps n) (given-plan-numbers n between)
+
+        module _ (memory : List ℕ) where
+          pub run-numbers : Between 11 17 n → (run words bytes steps memory .answer ≡ Refused n) ↔ (readPattern site bytes ≡ refused n)
+          run-numbers between = Iff·trans (run-given words bytes steps memory n (omega arith)) (given-numbers n between)
+
+          pub run-plan-numbers : Between 18 20 n → (run words bytes steps memory .answer ≡ Refused n) ↔ PlanNumber n
+          run-plan-numbers between = Iff·trans (run-given words bytes steps memory n (omega arith)) (given-plan-numbers n between)

@@ -15,7 +15,7 @@ use Rattle.model.specs.Calls.{Outcome, unaltered, build, plan, rowsOutco
 use Rattle.model.specs.Chain.{chainThreshold, chainStoreWords, isRefused, unlessRefused, planAndRun, chain}
 use Rattle.model.specs.Text.{RowsFit}
 use Rattle.model.specs.declared.answer.Answer.{Answer}
-use Rattle.model.specs.declared.answer.Answer.the-variants.{Rows, None, Built, Refused}
+use Rattle.model.specs.declared.answer.Answer.the-variants.{Rows, None, Built, Yes, No, Refused}
 use Rattle.model.specs.declared.answer.Answer.the-variants.{Plan as PlanAnswer}
 use Rattle.model.proofs.Booleans.{and-cases}
 use Rattle.model.proofs.Membership.{no-element}
@@ -60,6 +60,8 @@ module _ (memory : List ℕ) where
   unless-fits None next h = h
   unless-fits (Built words) next h = h
   unless-fits PlanAnswer next h = h
+  unless-fits Yes next h = h
+  unless-fits No next h = h
   unless-fits (Refused n) next h = tt
 
   pub chain-fits : (file check : List ℕ) → Fits (chain file check memory)

@@ -43,6 +43,7 @@ pub mod Calls
 pub mod Success
 pub mod RefusedCalls
 pub mod ExactNumbers
+pub mod Whether
 pub mod Memory
 pub mod Cases
 pub mod AnswerCases

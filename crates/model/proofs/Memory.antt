@@ -19,7 +19,7 @@ use Rattle.model.specs.Planner.{planned}
 use Rattle.model.specs.Solutions.{solutions}
 use Rattle.model.specs.Calls.{Outcome, over, unaltered, build, checked, padded, withPlan, plan, rowsOutcome, run, numberOf, valuesOf, planBytesOf}
 use Rattle.model.specs.declared.answer.Answer.{Answer}
-use Rattle.model.specs.declared.answer.Answer.the-variants.{Rows, None, Built, Refused}
+use Rattle.model.specs.declared.answer.Answer.the-variants.{Rows, None, Built, Yes, No, Refused}
 use Rattle.model.specs.declared.answer.Answer.the-variants.{Plan as PlanAnswer}
 use Rattle.model.specs.declared.answer.Planned.{Planned}
 use Rattle.model.proofs.Solutions.{solutions-sound}
@@ -71,6 +71,8 @@ values-length (Rows count width) steps lent h = refl
 values-length None steps lent h = refl
 values-length (Built words) steps lent h = refl
 values-length PlanAnswer steps lent h = refl
+values-length Yes steps lent h = refl
+values-length No steps lent h = refl
 values-length (Refused n) steps lent h = h
 
 padded-length : (n : ℕ) (xs : List ℕ) → length (padded n xs) ≡ n

@@ -9,25 +9,27 @@ use mathlib.Core.List.{List, [], _∷_}
 use lib.ListN.{length}
 use borrow.Author.Tests.{leb-true, leb-false, le-leb, lt-leb}
 use Rattle.model.specs.Reader.{Reply, refused, gives}
-use Rattle.model.specs.Site.{Site}
 use Rattle.model.specs.SiteFile.{readSite}
 use Rattle.model.specs.Tables.{mostThreshold}
 use Rattle.model.specs.Store.{layout, Holds, IsStore, Store, storeAt, storeOf}
 use Rattle.model.specs.Pattern.{Pattern, width}
 use Rattle.model.specs.PatternFile.{readPattern}
+use Rattle.model.specs.Plan.{Plan}
 use Rattle.model.specs.PlanFile.{readPlan}
 use Rattle.model.specs.Solutions.{solutions}
-use Rattle.model.specs.Calls.{Outcome, either, question, unaltered, build, Check, checkOf, checked, plan, rowsOutcome, run}
-use Rattle.model.specs.Questions.{BuildRefused, CheckRefused, RunRefused}
+use Rattle.model.specs.Calls.{Outcome, either, question, unaltered, build, Check, checkOf, checked, givenPlan, plan, rowsOutcome, run, yesOrNo, whether}
+use Rattle.model.specs.Questions.{BuildRefused, CheckRefused, GivenPlanRefused, RunRefused}
 use Rattle.model.specs.Questions.BuildRefused.{threshold-too-large, site-refused, store-too-small}
 use Rattle.model.specs.Questions.CheckRefused.{no-store, pattern-refused}
-use Rattle.model.specs.Questions.RunRefused.{check-refused, plan-refused, rows-too-many}
+use Rattle.model.specs.Questions.GivenPlanRefused.{check-refused, plan-refused}
+use Rattle.model.specs.Questions.RunRefused.{given-plan-refused, rows-too-many}
 use Rattle.model.specs.declared.answer.Answer.{Answer}
 use Rattle.model.specs.declared.answer.Answer.the-variants.{None, Refused}
 use Rattle.model.specs.declared.answer.Planned.{Planned}
 use Rattle.model.proofs.PatternFile.{pattern-accepted}
 use Rattle.model.proofs.Stores.{store-sound, store-complete}
 use Rattle.model.proofs.Calls.{by-reply, counts-agree}
+use Rattle.model.proofs.Success.{check-succeeds, given-succeeds}
 use Rattle.model.proofs.Questions.{gives≢refused, same-number}
 use Rattle.model.proofs.Readers.{refused≢gives}
 use Rattle.model.proofs.RefusedFiles.{site-exactly, pattern-exactly, plan-exactly}
@@ -117,11 +119,6 @@ module _ (words bytes : List ℕ) where
       go (inl x) = refused≢gives (sym (x .1) ∙ h)
       go (inr x) = read (x .0) (x .1) (readPattern (x .0 .site) bytes) refl (sym (x .2) ∙ h)
 
-  check-given : {t : ℕ} {site : Site} {pattern : Pattern} → Holds words t site → readPattern site bytes ≡ gives pattern
-      → checked words bytes ≡ gives (checkOf (storeAt t site) pattern)
-  unfolding checked either
-  check-given {t} {site} holds read = rw (store-complete words t site holds, read) refl
-
   check-exactly : (n : ℕ) → (checked words bytes ≡ refused n) ↔ CheckRefused words bytes n
   unfolding checked either
   check-exactly n = ((λ h. to store-asked h), from)
@@ -147,6 +144,72 @@ module _ (words bytes : List ℕ) where
     λ r. rw (check-exactly n .1 r) refl,
   )
 
+-- ---- and a plan given for it
+
+-- an accepted check, and a plan for it that is read
+pub record AcceptedPlan (words bytes steps : List ℕ) (c : Check) : Type 0 where
+  pub holds : Holds words (c .store .threshold) (c .store .site)
+  pub read : readPattern (c .store .site) bytes ≡ gives (c .pattern)
+  pub plan : Plan
+  pub proper : readPlan (c .store) (c .pattern) steps ≡ gives plan
+
+module _ (words bytes steps : List ℕ) where
+  -- what questions 10 to 17 lead to
+  abbrev planReply : Check → Reply Check
+  planReply check = either refused (readPlan (check .store) (check .pattern) steps) λ _. gives check
+
+  pub given-gives : (c : Check) → givenPlan words bytes steps ≡ gives c → AcceptedPlan words bytes steps c
+  unfolding givenPlan either
+  given-gives c h = at-check (checked words bytes) refl h
+    where
+      at-plan : (k : Check) → checked words bytes ≡ gives k → (x : Reply Plan) → readPlan (k .store) (k .pattern) steps ≡ x
+          → either refused x (λ _. gives k) ≡ gives c → AcceptedPlan words bytes steps c
+      at-plan k e (refused m) f h = refused≢gives h
+      at-plan k e (gives plan) f h =
+          let same : k ≡ c = cc in
+          let a = check-gives words bytes k e in
+          rw (← same) (record { holds = a .0; read = a .1; plan = plan; proper = f })
+
+      at-check : (x : Reply Check) → checked words bytes ≡ x → either refused x planReply ≡ gives c → AcceptedPlan words bytes steps c
+      at-check (refused m) e h = refused≢gives h
+      at-check (gives k) e h = at-plan k e (readPlan (k .store) (k .pattern) steps) refl h
+
+  pub given-exactly : (n : ℕ) → (givenPlan words bytes steps ≡ refused n) ↔ GivenPlanRefused words bytes steps n
+  unfolding givenPlan either
+  given-exactly n = ((λ h. at-check (checked words bytes) refl h), from)
+    where
+      at-plan : (k : Check) → checked words bytes ≡ gives k → (x : Reply Plan) → readPlan (k .store) (k .pattern) steps ≡ x
+          → either refused x (λ _. gives k) ≡ refused n → GivenPlanRefused words bytes steps n
+      at-plan k e (refused m) f h =
+          let a = check-gives words bytes k e in
+          plan-refused (a .0) (a .1) (plan-exactly (k .store) (k .pattern) steps n .0 (f ∙ same-number h))
+      at-plan k e (gives plan) f h = gives≢refused h
+
+      at-check : (x : Reply Check) → checked words bytes ≡ x → either refused x planReply ≡ refused n → GivenPlanRefused words bytes steps n
+      at-check (refused m) e h = check-refused (check-exactly words bytes n .0 (e ∙ same-number h))
+      at-check (gives k) e h = at-plan k e (readPlan (k .store) (k .pattern) steps) refl h
+
+      from : {n : ℕ} → GivenPlanRefused words bytes steps n → givenPlan words bytes steps ≡ refused n
+      from (check-refused {n} r) = rw (check-exactly words bytes n .1 r) refl
+      from (plan-refused {t} {n} {site} {pattern} holds read r) =
+          rw (check-succeeds words bytes t site pattern holds read, plan-exactly (storeAt t site) pattern steps n .1 r) refl
+
+-- ---- whether
+
+told-not-refused : {X : Type 0} {n : ℕ} (rows : List (List ℕ)) → yesOrNo rows ≡ Refused n → X
+unfolding yesOrNo
+told-not-refused [] h = let z : _≡_ {A = ℕ} 0 1 = cc in absurd (omega arith)
+told-not-refused (r ∷ rs) h = let z : _≡_ {A = ℕ} 0 1 = cc in absurd (omega arith)
+
+pub whether-exactly : (words bytes steps : List ℕ) (n : ℕ) → (whether words bytes steps ≡ Refused n) ↔ GivenPlanRefused words bytes steps n
+unfolding whether either
+whether-exactly words bytes steps n = (
+  (λ h. by-reply (λ answer. answer ≡ Refused n → GivenPlanRefused words bytes steps n) Refused (givenPlan words bytes steps) _
+      (λ m e h. this-number (GivenPlanRefused words bytes steps) h (given-exactly words bytes steps m .0 e))
+      (λ c e h. told-not-refused (solutions (c .store .site) (c .pattern)) h) h),
+  λ r. rw (given-exactly words bytes steps n .1 r) refl,
+)
+
 -- ---- run
 
 -- 21 is only asked of rows, and where there are none nothing exceeds the memory
@@ -170,26 +233,24 @@ module _ (words bytes steps memory : List ℕ) where
 
       to : run words bytes steps memory .answer ≡ Refused n → P n
       to h =
-          by-no P memory (checked words bytes) _ h (λ m e. check-refused (check-exactly words bytes m .0 e))
-          λ c e h. let a = check-gives words bytes c e in
-          by-no P memory (readPlan (c .store) (c .pattern) steps) _ h (λ m e. plan-refused (a .0) (a .1) (plan-exactly (c .store) (c .pattern) steps m .0 e))
-          λ plan e h. let accepted = pattern-accepted (c .store .site) bytes (c .pattern) (a .1) in
+          by-no P memory (givenPlan words bytes steps) _ h (λ m e. given-plan-refused (given-exactly words bytes steps m .0 e))
+          λ c e h. let g = given-gives words bytes steps c e in
+          let accepted = pattern-accepted (c .store .site) bytes (c .pattern) (g .read) in
           let r = rows-exactly (width (c .pattern)) (solutions (c .store .site) (c .pattern)) memory n .0 (rw (counts-agree (c .store .site) (c .pattern) accepted memory) at h) in
           rw (r .0) (rows-too-many (record {
             t = c .store .threshold;
             site = c .store .site;
-            holds = a .0;
+            holds = g .holds;
             pattern = c .pattern;
-            accepted = a .1;
-            plan = plan;
-            proper = e;
+            accepted = g .read;
+            plan = g .plan;
+            proper = g .proper;
             exceed = r .1;
           }))
 
       from : {n : ℕ} → P n → run words bytes steps memory .answer ≡ Refused n
-      from (check-refused {n} r) = rw (check-exactly words bytes n .1 r) refl
-      from (plan-refused {t} {n} {site} {pattern} holds read r) = rw (check-given words bytes holds read, plan-exactly (storeAt t site) pattern steps n .1 r) refl
+      from (given-plan-refused {n} r) = rw (given-exactly words bytes steps n .1 r) refl
       from (rows-too-many r) =
           let accepted = pattern-accepted (r .site) bytes (r .pattern) (r .accepted) in
-          rw (check-given words bytes (r .holds) (r .accepted), r .proper, counts-agree (r .site) (r .pattern) accepted memory)
+          rw (given-succeeds words bytes (r .t) (r .site) (r .pattern) (r .holds) (r .accepted) steps (r .plan) (r .proper), counts-agree (r .site) (r .pattern) accepted memory)
           (rows-exactly (width (r .pattern)) (solutions (r .site) (r .pattern)) memory 21 .1 (refl, r .exceed))

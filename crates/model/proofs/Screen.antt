@@ -20,7 +20,7 @@ use Rattle.model.specs.Calls.{Outcome, either, over, build, rowsOutcome}
 use Rattle.model.specs.Chain.{chainThreshold, chainStoreWords, chainRowWords, isRefused, chain, NoMatch}
 use Rattle.model.specs.Text.{rowLine, rowsText, noneText, refusedText, firstLine, rowLines, printed, screen}
 use Rattle.model.specs.declared.answer.Answer.{Answer}
-use Rattle.model.specs.declared.answer.Answer.the-variants.{Rows, None, Built, Refused}
+use Rattle.model.specs.declared.answer.Answer.the-variants.{Rows, None, Built, Yes, No, Refused}
 use Rattle.model.specs.declared.answer.Answer.the-variants.{Plan as PlanAnswer}
 use Rattle.model.proofs.Solutions.{solutions-sound}
 use Rattle.model.proofs.ChainRows.{chain-solutions, chain-plan-refused}
@@ -44,6 +44,8 @@ module _ (words more : List ℕ) where
   none-told None h = refl
   none-told (Built used) h = absurd (omega (arith, byte 0 h))
   none-told PlanAnswer h = absurd (omega (arith, byte 0 h))
+  none-told Yes h = absurd (omega (arith, byte 0 h))
+  none-told No h = absurd (omega (arith, byte 0 h))
   none-told (Refused n) h = absurd (omega (arith, byte 0 h))
 
   pub rows-told : (answer : Answer) → printed answer words ≡ rowsText ++ more → (count : ℕ) × (v : ℕ) × (answer ≡ Rows count v)
@@ -52,6 +54,8 @@ module _ (words more : List ℕ) where
   rows-told None h = absurd (omega (arith, byte 0 h))
   rows-told (Built used) h = absurd (omega (arith, byte 0 h))
   rows-told PlanAnswer h = absurd (omega (arith, byte 0 h))
+  rows-told Yes h = absurd (omega (arith, byte 0 h))
+  rows-told No h = absurd (omega (arith, byte 0 h))
   rows-told (Refused n) h = absurd (omega (arith, byte 1 h))
 
   pub refusal-told : (answer : Answer) → printed answer words ≡ refusedText ++ more → (n : ℕ) × (answer ≡ Refused n)
@@ -60,6 +64,8 @@ module _ (words more : List ℕ) where
   refusal-told None h = absurd (omega (arith, byte 0 h))
   refusal-told (Built used) h = absurd (omega (arith, byte 0 h))
   refusal-told PlanAnswer h = absurd (omega (arith, byte 0 h))
+  refusal-told Yes h = absurd (omega (arith, byte 0 h))
+  refusal-told No h = absurd (omega (arith, byte 0 h))
   refusal-told (Refused n) h = (n, refl)
 
 pub screen-none : (file check more : List ℕ) → areBytes file ≡ true → screen file check ≡ noneText ++ more → NoMatch file check

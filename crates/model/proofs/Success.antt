@@ -18,7 +18,7 @@ use Rattle.model.specs.Plan.{Plan}
 use Rattle.model.specs.PlanFile.{readPlan}
 use Rattle.model.specs.Planner.{planned}
 use Rattle.model.specs.Solutions.{solutions}
-use Rattle.model.specs.Calls.{outcome, over, either, build, checkOf, checked, withPlan, plan, rowsOutcome, run}
+use Rattle.model.specs.Calls.{outcome, over, either, build, checkOf, checked, givenPlan, withPlan, plan, rowsOutcome, run, yesOrNo, whether}
 use Rattle.model.specs.declared.answer.Answer.the-variants.{Rows, Built}
 use Rattle.model.specs.declared.answer.Answer.the-variants.{Plan as PlanAnswer}
 use Rattle.model.proofs.Stores.{store-complete}
@@ -32,10 +32,10 @@ pub build-succeeds : (t : ℕ) (bytes memory : List ℕ) (site : Site) → t ≤
 unfolding build either
 build-succeeds t bytes memory site low read room = rw (le-leb t mostThreshold low, read, le-leb (length (layout t site)) (length memory) room) refl
 
--- ---- plan and run, over a store
+-- ---- over a store
 
 module _ (words bytes : List ℕ) (t : ℕ) (site : Site) (pattern : Pattern) (holds : Holds words t site) (read : readPattern site bytes ≡ gives pattern) where
-  check-succeeds : checked words bytes ≡ gives (checkOf (storeAt t site) pattern)
+  pub check-succeeds : checked words bytes ≡ gives (checkOf (storeAt t site) pattern)
   unfolding checked either
   check-succeeds = rw (store-complete words t site holds, read) refl
 
@@ -43,10 +43,18 @@ module _ (words bytes : List ℕ) (t : ℕ) (site : Site) (pattern : Pattern) (h
   unfolding plan either
   plan-succeeds = rw check-succeeds refl
 
-  pub run-succeeds : (steps memory : List ℕ) (given : Plan) → readPlan (storeAt t site) pattern steps ≡ gives given
-      → run words bytes steps memory ≡ rowsOutcome (width pattern) (solutions site pattern) memory
-  unfolding run either
-  run-succeeds steps memory given proper = rw (check-succeeds, proper) (counts-agree site pattern (pattern-accepted site bytes pattern read) memory)
+  module _ (steps : List ℕ) (given : Plan) (proper : readPlan (storeAt t site) pattern steps ≡ gives given) where
+    pub given-succeeds : givenPlan words bytes steps ≡ gives (checkOf (storeAt t site) pattern)
+    unfolding givenPlan either
+    given-succeeds = rw (check-succeeds, proper) refl
+
+    pub run-succeeds : (memory : List ℕ) → run words bytes steps memory ≡ rowsOutcome (width pattern) (solutions site pattern) memory
+    unfolding run either
+    run-succeeds memory = rw given-succeeds (counts-agree site pattern (pattern-accepted site bytes pattern read) memory)
+
+    pub whether-succeeds : whether words bytes steps ≡ yesOrNo (solutions site pattern)
+    unfolding whether either
+    whether-succeeds = rw given-succeeds refl
 
 -- ---- rows
 

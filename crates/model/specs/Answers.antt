@@ -15,7 +15,8 @@ use Rattle.model.specs.PatternFile.{readPattern}
 use Rattle.model.specs.Planner.{planned}
 use Rattle.model.specs.Solutions.{IsSolution, solutions}
 use Rattle.model.specs.Calls.{Outcome, outcome, over, withPlan}
-use Rattle.model.specs.declared.answer.Answer.the-variants.{Rows, None, Built, Refused}
+use Rattle.model.specs.declared.answer.Answer.{Answer}
+use Rattle.model.specs.declared.answer.Answer.the-variants.{Rows, None, Built, Yes, No, Refused}
 use Rattle.model.specs.declared.answer.Answer.the-variants.{Plan as PlanAnswer}
 use Rattle.model.specs.declared.answer.Planned.{Planned}
 
@@ -50,3 +51,10 @@ RunAnswer words bytes memory o =
     ⊎ ((c : Accepted words bytes) × (1 ≤ length (solutions (c .store .site) (c .pattern)))
     × (o ≡ outcome (Rows (length (solutions (c .store .site) (c .pattern))) (width (c .pattern)))
     (over (concatMap (λ row. row) (solutions (c .store .site) (c .pattern))) memory))))
+
+-- 10 to 20; Yes, and a solution; or No, and none
+abbrev pub WhetherAnswer : List ℕ → List ℕ → Answer → Type 0
+WhetherAnswer words bytes answer =
+    ((n : ℕ) × Between 10 20 n × (answer ≡ Refused n))
+    ⊎ (((c : Accepted words bytes) × (answer ≡ Yes) × ((row : List ℕ) × IsSolution (c .store .site) (c .pattern) row))
+    ⊎ ((c : Accepted words bytes) × (answer ≡ No) × ((row : List ℕ) → IsSolution (c .store .site) (c .pattern) row → ⊥)))

@@ -20,7 +20,7 @@ use Rattle.model.specs.PlanFile.{stepNumbers, readPlan}
 use Rattle.model.specs.Planner.{planned}
 use Rattle.model.specs.Solutions.{solutions}
 use Rattle.model.specs.declared.answer.Answer.{Answer}
-use Rattle.model.specs.declared.answer.Answer.the-variants.{Rows, None, Built, Refused}
+use Rattle.model.specs.declared.answer.Answer.the-variants.{Rows, None, Built, Yes, No, Refused}
 use Rattle.model.specs.declared.answer.Answer.the-variants.{Plan as PlanAnswer}
 use Rattle.model.specs.declared.answer.Planned.{Planned}
 use Rattle.model.specs.declared.plan.Plan.{Plan as PlanNumbers}
@@ -87,6 +87,13 @@ checked words bytes =
     either refused (readPattern (store .site) bytes) λ pattern.
     gives (checkOf store pattern)
 
+-- questions 10 to 20: the check, for which a proper plan is given
+unfoldable pub givenPlan : List ℕ → List ℕ → List ℕ → Reply Check
+givenPlan words bytes planBytes =
+    either refused (checked words bytes) λ check.
+    either refused (readPlan (check .store) (check .pattern) planBytes) λ _.
+    gives check
+
 -- ---- plan
 
 -- n numbers: those given, then zeros
@@ -132,11 +139,23 @@ rowsOutcome v (r ∷ rs) memory =
 
 unfoldable pub run : List ℕ → List ℕ → List ℕ → List ℕ → Outcome
 run words bytes planBytes memory =
-    either (unaltered memory) (checked words bytes) λ check.
-    either (unaltered memory) (readPlan (check .store) (check .pattern) planBytes) λ _.
+    either (unaltered memory) (givenPlan words bytes planBytes) λ check.
     let site = check .store .site in
     let pattern = check .pattern in
     cond (noneByCounts site pattern) (outcome None memory) (rowsOutcome (width pattern) (solutions site pattern) memory)
+
+-- ---- whether
+
+-- Yes where there is a row, No where there is none
+unfoldable pub yesOrNo : List (List ℕ) → Answer
+yesOrNo [] = No
+yesOrNo (r ∷ rs) = Yes
+
+-- S-7: yes exactly where the accepted check has a solution; no memory is lent but for the answer
+unfoldable pub whether : List ℕ → List ℕ → List ℕ → Answer
+whether words bytes planBytes =
+    either Refused (givenPlan words bytes planBytes) λ check.
+    yesOrNo (solutions (check .store .site) (check .pattern))
 
 -- ---- the number and the values of an answer
 
@@ -146,6 +165,8 @@ numberOf (Rows count width) = 0
 numberOf None = 0
 numberOf (Built words) = 0
 numberOf PlanAnswer = 0
+numberOf Yes = 0
+numberOf No = 0
 numberOf (Refused n) = n
 
 -- what the four lent words of an answer hold afterwards: its kind and its values, a plan's the count of its steps, unused words 0;
@@ -155,6 +176,8 @@ valuesOf (Rows count width) steps lent = 1 ∷ count ∷ width ∷ 0 ∷ []
 valuesOf None steps lent = 2 ∷ 0 ∷ 0 ∷ 0 ∷ []
 valuesOf (Built words) steps lent = 3 ∷ words ∷ 0 ∷ 0 ∷ []
 valuesOf PlanAnswer steps lent = 4 ∷ steps ∷ 0 ∷ 0 ∷ []
+valuesOf Yes steps lent = 5 ∷ 0 ∷ 0 ∷ 0 ∷ []
+valuesOf No steps lent = 6 ∷ 0 ∷ 0 ∷ 0 ∷ []
 valuesOf (Refused n) steps lent = lent
 
 -- what the sixteen lent bytes of a plan hold afterwards: its numbers; a refusal leaves them
@@ -173,6 +196,10 @@ seen number memory values = record { number = number; memory = memory; values = 
 -- of an outcome, which is no plan's
 abbrev pub seenOf : Outcome → List ℕ → Seen
 seenOf o values = seen (numberOf (o .answer)) (o .memory) (valuesOf (o .answer) 0 values)
+
+-- of an answer beside which no memory is lent
+abbrev pub seenOfAnswer : Answer → List ℕ → Seen
+seenOfAnswer answer values = seenOf (outcome answer []) values
 
 -- of a plan, whose memory are the bytes lent for its steps
 abbrev pub seenOfPlan : Planned → List ℕ → List ℕ → Seen

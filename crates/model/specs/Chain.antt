@@ -12,7 +12,7 @@ use Rattle.model.specs.PatternFile.{readPattern}
 use Rattle.model.specs.Solutions.{IsSolution}
 use Rattle.model.specs.Calls.{Outcome, outcome, build, plan, run}
 use Rattle.model.specs.declared.answer.Answer.{Answer}
-use Rattle.model.specs.declared.answer.Answer.the-variants.{Rows, None, Built, Refused}
+use Rattle.model.specs.declared.answer.Answer.the-variants.{Rows, None, Built, Yes, No, Refused}
 use Rattle.model.specs.declared.answer.Answer.the-variants.{Plan as PlanAnswer}
 use Rattle.model.specs.declared.plan.Plan.{Plan as PlanNumbers}
 
@@ -32,6 +32,8 @@ isRefused (Rows count width) = false
 isRefused None = false
 isRefused (Built words) = false
 isRefused PlanAnswer = false
+isRefused Yes = false
+isRefused No = false
 isRefused (Refused n) = true
 
 -- a refusal ends the chain and leaves the rows' memory as it was

@@ -218,6 +218,13 @@ pub data CheckRefused (words bytes : List ℕ) : ℕ → Type 0 where
   no-store : (IsStore words → ⊥) → CheckRefused words bytes 10
   pattern-refused : {t n : ℕ} {site : Site} → Holds words t site → PatternRefused site bytes n → CheckRefused words bytes n
 
+-- then plan
+pub data GivenPlanRefused (words bytes steps : List ℕ) : ℕ → Type 0 where
+  check-refused : {n : ℕ} → CheckRefused words bytes n → GivenPlanRefused words bytes steps n
+  plan-refused : {t n : ℕ} {site : Site} {pattern : Pattern}
+      → Holds words t site → readPattern site bytes ≡ gives pattern → PlanRefused (storeAt t site) pattern steps n
+      → GivenPlanRefused words bytes steps n
+
 -- a store, a pattern that is accepted there, a proper plan, and more words of rows than are lent
 pub record RowsExceed (words bytes steps memory : List ℕ) : Type 0 where
   pub t : ℕ
@@ -229,10 +236,7 @@ pub record RowsExceed (words bytes steps memory : List ℕ) : Type 0 where
   pub proper : readPlan (storeAt t site) pattern steps ≡ gives plan
   pub exceed : length memory < length (solutions site pattern) * width pattern
 
--- then plan, rows memory
+-- then rows memory
 pub data RunRefused (words bytes steps memory : List ℕ) : ℕ → Type 0 where
-  check-refused : {n : ℕ} → CheckRefused words bytes n → RunRefused words bytes steps memory n
-  plan-refused : {t n : ℕ} {site : Site} {pattern : Pattern}
-      → Holds words t site → readPattern site bytes ≡ gives pattern → PlanRefused (storeAt t site) pattern steps n
-      → RunRefused words bytes steps memory n
+  given-plan-refused : {n : ℕ} → GivenPlanRefused words bytes steps n → RunRefused words bytes steps memory n
   rows-too-many : RowsExceed words bytes steps memory → RunRefused words bytes steps memory 21

@@ -10,7 +10,7 @@ use Rattle.model.specs.Lists.{concatMap, below}
 use Rattle.model.specs.Pattern.{mostVariables}
 use Rattle.model.specs.Chain.{chainRowWords, chain}
 use Rattle.model.specs.declared.answer.Answer.{Answer}
-use Rattle.model.specs.declared.answer.Answer.the-variants.{Rows, None, Built, Refused}
+use Rattle.model.specs.declared.answer.Answer.the-variants.{Rows, None, Built, Yes, No, Refused}
 use Rattle.model.specs.declared.answer.Answer.the-variants.{Plan as PlanAnswer}
 
 -- the most digits of a 64-bit number
@@ -48,12 +48,14 @@ noneText = 110 ∷ 111 ∷ 110 ∷ 101 ∷ []
 abbrev pub refusedText : List ℕ
 refusedText = 114 ∷ 101 ∷ 102 ∷ 117 ∷ 115 ∷ 101 ∷ 100 ∷ 32 ∷ []
 
--- the first line; build and plan have none, since the chain ends in what a run answers or in a refusal
+-- the first line; build, plan and whether have none, since the chain ends in what a run answers or in a refusal
 unfoldable pub firstLine : Answer → List ℕ
 firstLine (Rows count width) = rowsText ++ (decimal count ++ (widthText ++ (decimal width ++ 10 ∷ [])))
 firstLine None = noneText ++ 10 ∷ []
 firstLine (Built words) = []
 firstLine PlanAnswer = []
+firstLine Yes = []
+firstLine No = []
 firstLine (Refused n) = refusedText ++ (decimal n ++ 10 ∷ [])
 
 -- the lines of the rows at the front of some words
@@ -62,6 +64,8 @@ rowLines (Rows count width) words = concatMap (λ i. rowLine (take width (drop (
 rowLines None words = []
 rowLines (Built used) words = []
 rowLines PlanAnswer words = []
+rowLines Yes words = []
+rowLines No words = []
 rowLines (Refused n) words = []
 
 -- all that is printed of an answer and the words lent for its rows
@@ -74,6 +78,8 @@ RowsFit (Rows count width) words = (count * width ≤ length words) × (width �
 RowsFit None words = Unit {0}
 RowsFit (Built used) words = Unit {0}
 RowsFit PlanAnswer words = Unit {0}
+RowsFit Yes words = Unit {0}
+RowsFit No words = Unit {0}
 RowsFit (Refused n) words = Unit {0}
 
 -- all that the check program prints of a site's file and a check's; the words lent for the rows are 0

@@ -9,6 +9,9 @@ pub enum Answer {
     Built(u32),
     // The plan itself stands beside it, in Planned.
     Plan,
+    // Whether a check has a solution.
+    Yes,
+    No,
     // The number of the question that was answered no.
     Refused(u32),
 }

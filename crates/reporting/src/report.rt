@@ -28,6 +28,14 @@ pub fn report(answer: Answer, steps: usize, values: &mut [u64; 4]) -> u32
             *values = words;
             0
         }
+        Answer::Yes => {
+            *values = [5, 0, 0, 0];
+            0
+        }
+        Answer::No => {
+            *values = [6, 0, 0, 0];
+            0
+        }
         Answer::Refused(number) => number,
     }
 }

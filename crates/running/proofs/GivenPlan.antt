@@ -1,4 +1,4 @@
--- A plan that was read is proper, as the steps of its numbers.
+-- A plan that was read is proper, as the steps of its numbers; and what is prepared of it.
 use Prim.Native.Nat.{ℕ, _+_, _*_, _≤_, _<_}
 use native.Mathlib.Omega.{arith}
 use mathlib.Core.Path.{_≡_, refl, _∙_}
@@ -9,7 +9,8 @@ use lib.Seq.{getD-take, ext-getD}
 use lib.Dec.{eqb}
 use borrow.Author.Tests.{eqb-true}
 use Rattle.model.specs.Lists.{concatMap}
-use Rattle.model.specs.Store.{Store}
+use Rattle.model.specs.Reader.{Reply, refused, gives}
+use Rattle.model.specs.Store.{Store, decoded}
 use Rattle.model.specs.Pattern.{Pattern, mostTriplePatterns, isAccepted}
 use Rattle.model.specs.Plan.{Plan, isProper}
 use Rattle.model.specs.PlanFile.{stepNumbers, readPlan}
@@ -23,6 +24,8 @@ use Rattle.positions.proofs.ReplyLaws.{reply-given}
 use Rattle.plans.specs.Replies.{PlanReadAs}
 use Rattle.plans.specs.declared.plan_reader.PlanRead.{PlanRead}
 use Rattle.scanning.specs.PhysicalPlan.{stepsOf}
+use Rattle.running.specs.Prepared.{StepsGiven, PreparedAs}
+use Rattle.running.specs.declared.preparing.Prepared.{Prepared}
 use Rattle.running.proofs.StepNumbers.{steps-length, step-at}
 
 -- ---- the steps of a plan's numbers
@@ -53,3 +56,12 @@ module _ (store : Store) (pattern : Pattern) (accepted : isAccepted (store .site
       let proper = plan-file store pattern few .0 bytes plan given in
       let size = eqb-true (length plan) (length pattern) (and-cases (eqb (length plan) (length pattern)) _ proper .0) in
       rw (numbers, steps-back plan (omega arith)) proper
+
+-- the same reply, by what follows of what was read
+pub prepared-as : (words steps bytes : List ℕ) (pattern : Pattern) (p : PlanRead) (r : Prepared) → PlanReadAs (readPlan (decoded words) pattern bytes) p
+    → r .refusal ≡ p .refusal → (p .refusal ≡ 0 → StepsGiven words steps pattern r) → PreparedAs words steps pattern (readPlan (decoded words) pattern bytes) r
+prepared-as words steps bytes pattern p r read same next = go (readPlan (decoded words) pattern bytes) read
+  where
+    go : (reply : Reply Plan) → PlanReadAs reply p → PreparedAs words steps pattern reply r
+    go (refused n) read = (same ∙ read .0, read .1)
+    go (gives plan) read = (same ∙ read .0, next (read .0))

@@ -5,3 +5,4 @@ pub mod PlanRows
 pub mod TableRows
 pub mod Rearranged
 pub mod GivenPlan
+pub mod PlannedSteps

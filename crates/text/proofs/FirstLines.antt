@@ -7,7 +7,7 @@ use lib.ListN.{length, set, length-append}
 use lib.Seq.{sets}
 use Rattle.model.specs.Text.{decimal, rowsText, widthText, refusedText, firstLine}
 use Rattle.model.specs.declared.answer.Answer.{Answer}
-use Rattle.model.specs.declared.answer.Answer.the-variants.{Rows, None, Built, Refused}
+use Rattle.model.specs.declared.answer.Answer.the-variants.{Rows, None, Built, Yes, No, Refused}
 use Rattle.model.specs.declared.answer.Answer.the-variants.{Plan as PlanAnswer}
 use Rattle.model.proofs.Decimals.{decimal-length}
 use Rattle.text.proofs.Writing.{Written, written-none, written-put}
@@ -28,6 +28,8 @@ first-length (Rows count v) = omega (arith, rows-length {count = count} {v = v} 
 first-length None = omega arith
 first-length (Built words) = omega arith
 first-length PlanAnswer = omega arith
+first-length Yes = omega arith
+first-length No = omega arith
 first-length (Refused n) = omega (arith, refused-length {n = n} refl, decimal-length n)
 
 -- what a call says that puts a text at a place

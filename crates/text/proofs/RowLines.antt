@@ -9,7 +9,7 @@ use lib.ListN.{length, take, drop, length-append, length-take}
 use Rattle.model.specs.Lists.{concatMap, below}
 use Rattle.model.specs.Text.{spaced, rowLine, rowLines, firstLine, printed, RowsFit}
 use Rattle.model.specs.declared.answer.Answer.{Answer}
-use Rattle.model.specs.declared.answer.Answer.the-variants.{Rows, None, Built, Refused}
+use Rattle.model.specs.declared.answer.Answer.the-variants.{Rows, None, Built, Yes, No, Refused}
 use Rattle.model.specs.declared.answer.Answer.the-variants.{Plan as PlanAnswer}
 use Rattle.model.proofs.Below.{below-last}
 use Rattle.model.proofs.Blocks.{concatMap-append}
@@ -65,4 +65,6 @@ printed-size (Rows count v) words h = omega (arith, length-append (firstLine (Ro
 printed-size None words h = omega (arith, length-append (firstLine None) [], first-length None)
 printed-size (Built used) words h = omega (arith, length-append (firstLine (Built used)) [], first-length (Built used))
 printed-size PlanAnswer words h = omega (arith, length-append (firstLine PlanAnswer) [], first-length PlanAnswer)
+printed-size Yes words h = omega (arith, length-append (firstLine Yes) [], first-length Yes)
+printed-size No words h = omega (arith, length-append (firstLine No) [], first-length No)
 printed-size (Refused n) words h = omega (arith, length-append (firstLine (Refused n)) [], first-length (Refused n))

@@ -34,6 +34,8 @@ pub fn put_answer(answer: Answer, words: &[u32], out: &mut [u8]) -> usize
         Answer::None => first,
         Answer::Built(_) => first,
         Answer::Plan => first,
+        Answer::Yes => first,
+        Answer::No => first,
         Answer::Refused(_) => first,
     }
 }

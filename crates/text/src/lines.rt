@@ -41,6 +41,8 @@ pub fn put_first_line(answer: Answer, out: &mut [u8], at: usize) -> usize
         }
         Answer::Built(_) => at,
         Answer::Plan => at,
+        Answer::Yes => at,
+        Answer::No => at,
         Answer::Refused(number) => {
             let refused = [114u8, 101, 102, 117, 115, 101, 100, 32];
             let with_refused = put_bytes(&refused, out, at);

@@ -4,7 +4,7 @@
 //   0  build: the number is T, so many words are lent, each 7; the first file is the site's
 //   1  the words of the first file, four bytes each, are held from here on
 //   2  plan, over so many of the words held, the word at the place changed to the number; the first file is the pattern
-//   3  run, as in 2; the second file is the plan, and so many words are lent for rows, each 7
+//   3  run, as in 2; the second file is the plan, and so many words are lent for rows, each 7; then whether, of the same
 //   4  the chain of the check program: a site's file and a check's, and words lent as in 3
 mod building_cases;
 mod bytes;

@@ -49,6 +49,12 @@ pub fn print_answer(answer: Answer) {
         Answer::Plan => {
             io::write_all(1, b"plan");
         }
+        Answer::Yes => {
+            io::write_all(1, b"yes");
+        }
+        Answer::No => {
+            io::write_all(1, b"no");
+        }
     }
 }
 

@@ -17,6 +17,11 @@ pub fn try_run(store: &[u32], pattern: &[u8], steps: &[u8], lent: usize) {
     }
 }
 
+pub fn try_whether(store: &[u32], pattern: &[u8], steps: &[u8]) {
+    print_answer(closing::calls::whether(store, pattern, steps));
+    io::write_all(1, b"\n");
+}
+
 fn chain_lent(site: &[u8], check: &[u8], rows: &mut [u32]) {
     print_answer(check_site(site, check, rows));
     print_words(rows);

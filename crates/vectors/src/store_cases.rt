@@ -1,6 +1,7 @@
 use crate::printing::print_answer;
 use crate::printing::print_plan;
 use crate::row_cases::try_run;
+use crate::row_cases::try_whether;
 
 fn try_plan(store: &[u32], pattern: &[u8]) {
     let made = closing::calls::plan(store, pattern);
@@ -13,6 +14,7 @@ fn try_plan(store: &[u32], pattern: &[u8]) {
 fn try_held(runs: bool, store: &[u32], pattern: &[u8], steps: &[u8], lent: usize) {
     if runs {
         try_run(store, pattern, steps, lent);
+        try_whether(store, pattern, steps);
     } else {
         try_plan(store, pattern);
     }

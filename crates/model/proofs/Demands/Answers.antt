@@ -1,7 +1,7 @@
 -- Demand 1 and the rule before the demands: what each call may answer, and of what 'none' may be said.
 use Prim.Native.Nat.{ℕ, _*_, _≤_}
 use mathlib.Core.Path.{_≡_, refl}
-use mathlib.Core.Logic.{_↔_}
+use mathlib.Core.Logic.{_⊎_, _↔_}
 use mathlib.Core.Bool.{true}
 use mathlib.Core.List.{List, []}
 use lib.ListN.{length, getD, take, drop, replicate}
@@ -18,18 +18,20 @@ use Rattle.model.specs.Plan.{Plan}
 use Rattle.model.specs.PlanFile.{readPlan}
 use Rattle.model.specs.Planner.{planned}
 use Rattle.model.specs.Solutions.{IsSolution, solutions}
-use Rattle.model.specs.Calls.{outcome, over, build, withPlan, plan, rowsOutcome, run}
-use Rattle.model.specs.Answers.{BuildAnswer, Accepted, PlanCallAnswer, RunAnswer}
+use Rattle.model.specs.Calls.{outcome, over, build, withPlan, plan, rowsOutcome, run, whether}
+use Rattle.model.specs.Answers.{BuildAnswer, Accepted, PlanCallAnswer, RunAnswer, WhetherAnswer}
 use Rattle.model.specs.Chain.{chainThreshold, chainStoreWords, isRefused, chain, NoMatch}
 use Rattle.model.specs.declared.answer.Answer.{Answer}
-use Rattle.model.specs.declared.answer.Answer.the-variants.{Rows, None, Built, Refused}
+use Rattle.model.specs.declared.answer.Answer.the-variants.{Rows, None, Built, Yes, No, Refused}
 use Rattle.model.specs.declared.answer.Answer.the-variants.{Plan as PlanAnswer}
-use Rattle.model.proofs.Answers.{build-answers, plan-answers, run-answers, run-none, chain-none}
+use Rattle.model.proofs.Answers.{build-answers, plan-answers, run-answers, whether-answers, run-none, whether-no, chain-none}
 use Rattle.model.proofs.Success.{build-succeeds, plan-succeeds, run-succeeds, rows-fit, over-later, over-length}
+use Rattle.model.proofs.ExactNumbers.{same-refusals}
+use Rattle.model.proofs.Whether.{whether-told, whether-solutions, none-is-no}
 use Rattle.model.proofs.ChainRows.{refused-exactly, chain-solutions, chain-build-refused, chain-plan-refused}
 
--- ==== Demand 1. Each call, on all bytes and words whatsoever, answers with what it was called for (tables, a plan, rows or none) or
--- with a refusal and its number from the list; a refusal leaves all lent memory unaltered.
+-- ==== Demand 1. Each call, on all bytes and words whatsoever, answers with what it was called for (tables, a plan, rows or none; of S-7
+-- also yes or no) or with a refusal and its number from the list; a refusal leaves all lent memory unaltered.
 
 -- specs/Answers says what each may answer: 1 to 9 and the memory as it was, or Built and the words of the site that was read
 abbrev pub Build-Answers : Type 0
@@ -51,6 +53,13 @@ Run-Answers = (words bytes steps memory : List ℕ) → RunAnswer words bytes me
 
 pub demand-1-run : Run-Answers
 demand-1-run = run-answers
+
+-- 10 to 20; Yes, and a solution; or No, and none. It is lent no rows memory, so 21 can't arise
+abbrev pub Whether-Answers : Type 0
+Whether-Answers = (words bytes steps : List ℕ) → WhetherAnswer words bytes (whether words bytes steps)
+
+pub demand-1-whether : Whether-Answers
+demand-1-whether = whether-answers
 
 -- Each of these says "a refusal, or ..", which an engine that refuses everything meets. So: where every question is passed, each call
 -- answers with what it was called for.
@@ -81,7 +90,18 @@ Run-Succeeds =
     → run words bytes steps memory ≡ rowsOutcome (width pattern) (solutions site pattern) memory
 
 pub demand-1-ran : Run-Succeeds
-demand-1-ran words bytes steps memory t site pattern given holds read = run-succeeds words bytes t site pattern holds read steps memory given
+demand-1-ran words bytes steps memory t site pattern given holds read proper =
+    run-succeeds words bytes t site pattern holds read steps given proper memory
+
+-- the same, and no words lent: Yes or No
+abbrev pub Whether-Succeeds : Type 0
+Whether-Succeeds =
+    (words bytes steps : List ℕ) (t : ℕ) (site : Site) (pattern : Pattern) (given : Plan)
+    → Holds words t site → readPattern site bytes ≡ gives pattern → readPlan (storeAt t site) pattern steps ≡ gives given
+    → (whether words bytes steps ≡ Yes) ⊎ (whether words bytes steps ≡ No)
+
+pub demand-1-told : Whether-Succeeds
+demand-1-told = whether-told
 
 -- no row: None, and all words keep their content; rows that fit: Rows (their count, width V), and the rows' words over the memory
 abbrev pub Rows-Answer : Type 0
@@ -115,6 +135,15 @@ None-Is-Whole =
 
 pub none-is-whole : None-Is-Whole
 none-is-whole = run-none
+
+-- 'no' on the lamp is such a word too
+abbrev pub No-Is-Whole : Type 0
+No-Is-Whole =
+    (words bytes steps : List ℕ) → whether words bytes steps ≡ No
+    → (c : Accepted words bytes) × ((row : List ℕ) → IsSolution (c .store .site) (c .pattern) row → ⊥)
+
+pub no-is-whole : No-Is-Whole
+no-is-whole = whether-no
 
 -- The chain that says 'none' read a file that is, to its last byte, what is written for a site, and that whole site holds no match.
 abbrev pub Chain-None-Is-Whole : Type 0
@@ -158,3 +187,27 @@ Chain-Keeps-Plan-Refusal =
 
 pub chain-keeps-plan-refusal : Chain-Keeps-Plan-Refusal
 chain-keeps-plan-refusal file check memory site n whole fits = chain-plan-refused file check memory site whole fits n
+
+-- ==== S-7. It says yes exactly where the accepted check has a solution, and no exactly where it has none.
+
+-- a store of any T, a pattern that is accepted, and any proper plan given
+abbrev pub Whether-Is-Exact : Type 0
+Whether-Is-Exact =
+    (words bytes steps : List ℕ) (t : ℕ) (site : Site) (pattern : Pattern) (given : Plan)
+    → Holds words t site → readPattern site bytes ≡ gives pattern → readPlan (storeAt t site) pattern steps ≡ gives given
+    → ((whether words bytes steps ≡ Yes) ↔ ((row : List ℕ) × IsSolution site pattern row))
+    × ((whether words bytes steps ≡ No) ↔ ((row : List ℕ) → IsSolution site pattern row → ⊥))
+
+pub whether-is-exact : Whether-Is-Exact
+whether-is-exact = whether-solutions
+
+-- On the same store, pattern and plan, whatever the rows memory: a run answers None exactly where No is said, and both refuse with 10 to
+-- 20 alike.
+abbrev pub Whether-As-Run : Type 0
+Whether-As-Run =
+    (words bytes steps memory : List ℕ)
+    → ((run words bytes steps memory .answer ≡ None) ↔ (whether words bytes steps ≡ No))
+    × ((n : ℕ) → n ≤ 20 → (whether words bytes steps ≡ Refused n) ↔ (run words bytes steps memory .answer ≡ Refused n))
+
+pub whether-as-run : Whether-As-Run
+whether-as-run words bytes steps memory = (none-is-no words bytes steps memory, same-refusals words bytes steps memory)

@@ -3,7 +3,7 @@ use mathlib.Core.Path.{_≡_}
 use mathlib.Core.List.{[], _∷_, map}
 use Rattle.model.specs.Lists.{concatMap}
 use Rattle.model.proofs.Cases.{Hold, cases, worked}
-use Rattle.model.proofs.AnswerCases.{refusedSites, siteRefusal, sites-refused, buildCases, builds-worked, refusedChecks, checkRefusals, checks-refused, refusedPlans, planRefusal, plans-refused, runCases, runs-worked, shopJoined, met, first-step, plannerCases, plans-worked, printedCases, printed-worked}
+use Rattle.model.proofs.AnswerCases.{refusedSites, siteRefusal, sites-refused, buildCases, builds-worked, refusedChecks, checkRefusals, checks-refused, refusedPlans, planRefusals, plans-refused, runCases, runs-worked, shopJoined, met, first-step, plannerCases, plans-worked, printedCases, printed-worked}
 
 -- ==== The worked shop: cases (a) to (j)
 
@@ -18,7 +18,7 @@ cases-hold = worked
 
 abbrev pub Refusals-Hold : Type 0
 Refusals-Hold =
-    Hold (map siteRefusal refusedSites) × Hold (concatMap checkRefusals refusedChecks) × Hold (map planRefusal refusedPlans)
+    Hold (map siteRefusal refusedSites) × Hold (concatMap checkRefusals refusedChecks) × Hold (concatMap planRefusals refusedPlans)
 
 pub refusals-hold : Refusals-Hold
 refusals-hold = (sites-refused, checks-refused, plans-refused)

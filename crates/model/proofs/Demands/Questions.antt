@@ -14,8 +14,8 @@ use Rattle.model.specs.PatternFile.{triplePattern, readPattern, patternB
 use Rattle.model.specs.Plan.{Plan}
 use Rattle.model.specs.PlanFile.{step, readPlan}
 use Rattle.model.specs.Answers.{Between}
-use Rattle.model.specs.Calls.{build, plan, run}
-use Rattle.model.specs.Questions.{NoNumber, Begins, NumberForm, GoesOn, FirstRefused, DeclarationRefused, RowRefused, SiteRefused, TripleRefused, PatternRefused, StepRefused, PlanRefused, NoRoom, BuildRefused, CheckRefused, RowsExceed, RunRefused}
+use Rattle.model.specs.Calls.{build, plan, run, whether}
+use Rattle.model.specs.Questions.{NoNumber, Begins, NumberForm, GoesOn, FirstRefused, DeclarationRefused, RowRefused, SiteRefused, TripleRefused, PatternRefused, StepRefused, PlanRefused, NoRoom, BuildRefused, CheckRefused, GivenPlanRefused, RowsExceed, RunRefused}
 use Rattle.model.specs.declared.answer.Answer.the-variants.{Refused}
 use Rattle.model.proofs.NumberForm.{number-form, no-number-form}
 use Rattle.model.proofs.Questions.{first-refused}
@@ -23,8 +23,8 @@ use Rattle.model.proofs.RefusedRows.{declaration-exactly, row-exactly}
 use Rattle.model.proofs.RefusedTriples.{triple-exactly}
 use Rattle.model.proofs.RefusedSteps.{step-exactly}
 use Rattle.model.proofs.RefusedFiles.{site-exactly, pattern-exactly, plan-exactly}
-use Rattle.model.proofs.RefusedCalls.{build-exactly, plan-call-exactly, run-exactly}
-use Rattle.model.proofs.ExactNumbers.{one-exactly, eight-exactly, nine-exactly, plan-ten, run-ten, twelve-exactly, seventeen-exactly, twenty-one-exactly, site-numbers, plan-numbers, run-numbers, run-plan-numbers}
+use Rattle.model.proofs.RefusedCalls.{build-exactly, plan-call-exactly, whether-exactly, run-exactly}
+use Rattle.model.proofs.ExactNumbers.{one-exactly, eight-exactly, nine-exactly, plan-ten, whether-ten, run-ten, twelve-exactly, seventeen-exactly, twenty-one-exactly, site-numbers, plan-numbers, whether-numbers, whether-plan-numbers, run-numbers, run-plan-numbers}
 
 -- ==== Inputs are questioned in the order T, site, store to fill; or store, pattern, plan, rows memory. specs/Questions has a line for
 -- each way to be refused, with its number and what was passed before it: a call is refused with n exactly where such a line holds.
@@ -47,6 +47,12 @@ Run-Refusals = (words bytes steps memory : List ℕ) (n : ℕ) → (run words by
 pub run-refusals : Run-Refusals
 run-refusals = run-exactly
 
+abbrev pub Whether-Refusals : Type 0
+Whether-Refusals = (words bytes steps : List ℕ) (n : ℕ) → (whether words bytes steps ≡ Refused n) ↔ GivenPlanRefused words bytes steps n
+
+pub whether-refusals : Whether-Refusals
+whether-refusals = whether-exactly
+
 -- So, of T at most 1,000, numbers 2 to 8 are given exactly where the site's reader gives them.
 abbrev pub Site-Numbers : Type 0
 Site-Numbers = (t : ℕ) (bytes memory : List ℕ) (n : ℕ) → t ≤ 1000 → Between 2 8 n → (build t bytes memory .answer ≡ Refused n) ↔ (readSite bytes ≡ refused n)
@@ -59,15 +65,20 @@ abbrev pub Store-Numbers : Type 0
 Store-Numbers =
     (words : List ℕ) (t : ℕ) (site : Site) → Holds words t site → (bytes : List ℕ) (n : ℕ)
     → (Between 11 17 n → (plan words bytes .answer ≡ Refused n) ↔ (readPattern site bytes ≡ refused n))
+    × ((steps : List ℕ) → Between 11 17 n → (whether words bytes steps ≡ Refused n) ↔ (readPattern site bytes ≡ refused n))
     × ((steps memory : List ℕ) → Between 11 17 n → (run words bytes steps memory .answer ≡ Refused n) ↔ (readPattern site bytes ≡ refused n))
+    × ((steps : List ℕ) → Between 18 20 n → (whether words bytes steps ≡ Refused n)
+    ↔ ((pattern : Pattern) × (readPattern site bytes ≡ gives pattern) × (readPlan (storeAt t site) pattern steps ≡ refused n)))
     × ((steps memory : List ℕ) → Between 18 20 n → (run words bytes steps memory .answer ≡ Refused n)
     ↔ ((pattern : Pattern) × (readPattern site bytes ≡ gives pattern) × (readPlan (storeAt t site) pattern steps ≡ refused n)))
 
 pub store-numbers-are-exact : Store-Numbers
 store-numbers-are-exact words t site holds bytes n = (
   plan-numbers holds bytes n,
-  (λ steps memory. run-numbers holds bytes steps memory n),
-  λ steps memory. run-plan-numbers holds bytes steps memory n,
+  (λ steps. whether-numbers holds bytes steps n),
+  (λ steps. run-numbers holds bytes steps n),
+  (λ steps. whether-plan-numbers holds bytes steps n),
+  λ steps. run-plan-numbers holds bytes steps n,
 )
 
 -- ==== Bytes are taken from the front: a file is refused with the number of its first element that is refused, or of its own questions
@@ -178,10 +189,11 @@ abbrev pub Ten-Exactly : Type 0
 Ten-Exactly =
     (words bytes : List ℕ)
     → ((plan words bytes .answer ≡ Refused 10) ↔ (IsStore words → ⊥))
+    × ((steps : List ℕ) → (whether words bytes steps ≡ Refused 10) ↔ (IsStore words → ⊥))
     × ((steps memory : List ℕ) → (run words bytes steps memory .answer ≡ Refused 10) ↔ (IsStore words → ⊥))
 
 pub ten-is-exact : Ten-Exactly
-ten-is-exact words bytes = (plan-ten words bytes, run-ten words bytes)
+ten-is-exact words bytes = (plan-ten words bytes, whether-ten words bytes, run-ten words bytes)
 
 -- 12. Is N 1 to 8?
 abbrev pub Twelve-Exactly : Type 0

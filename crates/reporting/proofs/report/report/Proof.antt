@@ -23,6 +23,12 @@ cast-t13 c = search needs
 enum-told-2 : tie.Need-enum-told-2
 enum-told-2 c = search needs
 
+enum-told-3 : tie.Need-enum-told-3
+enum-told-3 c = search needs
+
+enum-told-4 : tie.Need-enum-told-4
+enum-told-4 c = search needs
+
 enum-known-answer-3 : tie.Need-enum-known-answer-3
 enum-known-answer-3 c = search needs
 
@@ -44,7 +50,15 @@ returns-4 c = rw (c .enum-told2 .given .1) (refl, refl)
 
 returns-5 : tie.Need-returns-5
 unfolding numberOf valuesOf
-returns-5 c = rw (c .before .answer3 .given .1) (refl, refl)
+returns-5 c = rw (c .before .enum-told3 .given .1) (refl, refl)
+
+returns-6 : tie.Need-returns-6
+unfolding numberOf valuesOf
+returns-6 c = rw (c .before .enum-told4 .given .1) (refl, refl)
+
+returns-7 : tie.Need-returns-7
+unfolding numberOf valuesOf
+returns-7 c = rw (c .before .answer3 .given .1) (refl, refl)
 
 pub report-spec : {M : Type 1} → statement M
 report-spec =
@@ -56,9 +70,13 @@ report-spec =
     enum-known-answer-2
     cast-t13
     enum-told-2
+    enum-told-3
+    enum-told-4
     enum-known-answer-3
     returns
     returns-2
     returns-3
     returns-4
-    returns-5)
+    returns-5
+    returns-6
+    returns-7)

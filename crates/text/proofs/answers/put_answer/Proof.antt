@@ -37,6 +37,12 @@ enum-told-3 c = search needs
 enum-told-4 : tie.Need-enum-told-4
 enum-told-4 c = search needs
 
+enum-told-5 : tie.Need-enum-told-5
+enum-told-5 c = search needs
+
+enum-told-6 : tie.Need-enum-told-6
+enum-told-6 c = search needs
+
 same-length : tie.Need-same-length
 same-length c = search needs
 
@@ -84,6 +90,20 @@ returns-5 : tie.Need-returns-5
 unfolding rowLines
 returns-5 c = without-rows (c .before .before .before .before) (rw (c .enum-told4 .given .1) refl)
 
+same-length-6 : tie.Need-same-length-6
+same-length-6 c = search needs
+
+returns-6 : tie.Need-returns-6
+unfolding rowLines
+returns-6 c = without-rows (c .before .before .before .before) (rw (c .enum-told5 .given .1) refl)
+
+same-length-7 : tie.Need-same-length-7
+same-length-7 c = search needs
+
+returns-7 : tie.Need-returns-7
+unfolding rowLines
+returns-7 c = without-rows (c .before .before .before .before) (rw (c .enum-told6 .given .1) refl)
+
 pub put-answer-spec : {M : Type 1} → statement M
 put-answer-spec =
     tie.close
@@ -95,6 +115,8 @@ put-answer-spec =
     enum-told-2
     enum-told-3
     enum-told-4
+    enum-told-5
+    enum-told-6
     same-length
     returns
     same-length-2
@@ -104,4 +126,8 @@ put-answer-spec =
     same-length-4
     returns-4
     same-length-5
-    returns-5)
+    returns-5
+    same-length-6
+    returns-6
+    same-length-7
+    returns-7)

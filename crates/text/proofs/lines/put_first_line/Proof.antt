@@ -55,6 +55,12 @@ enum-told-2 c = search needs
 enum-told-3 : tie.Need-enum-told-3
 enum-told-3 c = search needs
 
+enum-told-4 : tie.Need-enum-told-4
+enum-told-4 c = search needs
+
+enum-told-5 : tie.Need-enum-told-5
+enum-told-5 c = search needs
+
 enum-known-answer-2 : tie.Need-enum-known-answer-2
 enum-known-answer-2 c = search needs
 
@@ -106,11 +112,19 @@ returns-4 : tie.Need-returns-4
 unfolding firstLine
 returns-4 c = rw (c .enum-told3 .given .1) (sym (add-zero _), refl)
 
+returns-5 : tie.Need-returns-5
+unfolding firstLine
+returns-5 c = rw (c .enum-told4 .given .1) (sym (add-zero _), refl)
+
+returns-6 : tie.Need-returns-6
+unfolding firstLine
+returns-6 c = rw (c .enum-told5 .given .1) (sym (add-zero _), refl)
+
 same-length-3 : tie.Need-same-length-3
 same-length-3 c = simp length-set (omega arith)
 
-returns-5 : tie.Need-returns-5
-returns-5 c =
+returns-7 : tie.Need-returns-7
+returns-7 c =
     let named = c .before .before .before .before .before .before in
     let start = named .before .before .before .before in
     rw (start .answer2 .given .1)
@@ -135,6 +149,8 @@ put-first-line-spec =
     put-bytes-requires-3
     enum-told-2
     enum-told-3
+    enum-told-4
+    enum-told-5
     enum-known-answer-2
     slice-aggregate-put-bytes-4
     put-bytes-requires-4
@@ -148,5 +164,7 @@ put-first-line-spec =
     returns-2
     returns-3
     returns-4
+    returns-5
+    returns-6
     same-length-3
-    returns-5)
+    returns-7)
