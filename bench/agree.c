@@ -1,8 +1,9 @@
-/* Compares the engine's rows with SQLite's, on seeded good checks over good sites.
+/* Compares the engine's rows with SQLite's, and whether it says that there is one, on seeded good checks over good sites.
  *
  *     agree [SEED [COUNT]]     COUNT checks, from the inputs of SEED on; 1 and 5,000 unless said otherwise
  *
- * Inputs whose site or check the engine refuses are left out. Its status is 0 only if every row of every check agreed. */
+ * Inputs whose site or check the engine refuses are left out. Its status is 0 only if every row of every check agreed, and whether there is
+ * one with SQLite's LIMIT 1 and with the engine's own run. */
 #include "closing.h"
 #include "inputs.h"
 #include "peer.h"
@@ -24,8 +25,11 @@ struct rows {
 
 static struct rows engine_rows, peer_rows;
 
+/* 1 for yes, 0 for no. */
+static int engine_decides, peer_decides;
+
 static struct {
-    uint64_t checks, with_rows, without, too_many, rows, refused_sites, refused_checks;
+    uint64_t checks, with_rows, without, too_many, rows, decided[2], refused_sites, refused_checks;
 } tally;
 
 /* What the engine makes of an input: a check that it answered, or one to leave out. */
@@ -44,6 +48,15 @@ static enum asked run_engine(const uint32_t *store, const struct file *pattern, 
     return ANSWERED;
 }
 
+/* Whether there is a row, by the same plan. */
+static enum asked decide_engine(const uint32_t *store, const struct file *pattern, const uint8_t *plan, size_t plan_bytes) {
+    uint64_t answer[4];
+    if (closing_whether(store, CLOSING_STORE_WORDS, pattern->byte, pattern->size, plan, plan_bytes, answer) != 0)
+        return WRONGLY_REFUSED;
+    engine_decides = answer[0] == CLOSING_YES;
+    return engine_decides || answer[0] == CLOSING_NO ? ANSWERED : WRONGLY_REFUSED;
+}
+
 static enum asked ask_engine(const struct input *input) {
     static uint32_t store[CLOSING_STORE_WORDS];
     uint8_t plan[16];
@@ -56,7 +69,9 @@ static enum asked ask_engine(const struct input *input) {
         tally.refused_checks++;
         return LEFT_OUT;
     }
-    return run_engine(store, &input->pattern, plan, 2 * (size_t)answer[1]);
+    size_t plan_bytes = 2 * (size_t)answer[1];
+    enum asked asked = run_engine(store, &input->pattern, plan, plan_bytes);
+    return asked == ANSWERED ? decide_engine(store, &input->pattern, plan, plan_bytes) : asked;
 }
 
 /* Gives 0 if the database itself is not in order. */
@@ -64,6 +79,7 @@ static int ask_peer(const struct input *input) {
     struct peer *peer = peer_load(input->held_site.byte, input->held_site.size);
     peer_prepare(peer, input->pattern.byte, input->pattern.size);
     peer_rows.count = peer_query(peer, peer_rows.word, COMPARED_WORDS, &peer_rows.width);
+    peer_decides = peer_whether(peer);
     int is_ok = peer_quick_check(peer);
     peer_close(peer);
     return is_ok;
@@ -71,6 +87,10 @@ static int ask_peer(const struct input *input) {
 
 static const char *difference(void) {
     size_t count = engine_rows.count;
+    if (engine_decides != peer_decides)
+        return "whether there is a row differs";
+    if (engine_decides != (count != 0))
+        return "the engine finds rows and says that there is none, or none and says that there is one";
     if (count != peer_rows.count)
         return "the counts of rows differ";
     if (count == 0 || count == SIZE_MAX)
@@ -84,6 +104,7 @@ static const char *difference(void) {
 
 static void count_check(void) {
     tally.checks++;
+    tally.decided[engine_decides]++;
     if (engine_rows.count == SIZE_MAX)
         tally.too_many++;
     else if (engine_rows.count == 0)
@@ -118,12 +139,14 @@ static void print_difference(const char *what, uint64_t seed, const struct input
     printf("seed %" PRIu64 ": %s\n", seed, what);
     print_rows("engine", &engine_rows);
     print_rows("SQLite", &peer_rows);
+    printf("whether there is a row: engine %d, SQLite %d\n", engine_decides, peer_decides);
     print_input(input);
 }
 
 static void print_tally(uint64_t seed, uint64_t end) {
     printf("%" PRIu64 " checks agree: %" PRIu64 " with rows, %" PRIu64 " with none, %" PRIu64 " whose rows do not fit; %" PRIu64 " rows in all\n",
            tally.checks, tally.with_rows, tally.without, tally.too_many, tally.rows);
+    printf("whether there is a row agrees with LIMIT 1 and with the run: %" PRIu64 " yes, %" PRIu64 " no\n", tally.decided[1], tally.decided[0]);
     printf("seeds %" PRIu64 " to %" PRIu64 "; left out: %" PRIu64 " refused sites, %" PRIu64 " refused checks\n", seed, end - 1, tally.refused_sites,
            tally.refused_checks);
 }

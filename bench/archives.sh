@@ -1,5 +1,6 @@
 # For bench/run and bench/beside, `. bench/archives.sh COMMIT`: proves and builds the archive, and that of COMMIT, whose calls are named
-# before_build, before_plan and before_run; it is made once for each commit. Compiles what measure is linked of beside the two.
+# before_build, before_plan, before_run and, if it has that, before_whether; it is made once for each commit. Compiles what measure is linked
+# of beside the two.
 
 warnings='-std=c99 -Wall -Wextra -Wpedantic -Wconversion -Wshadow -Wstrict-prototypes -Wmissing-prototypes -Werror'
 out=target/bench
@@ -16,7 +17,7 @@ if [ ! -f "$before" ]; then
   rm -rf "$out/before" && git clone -q --no-checkout . "$out/before" && git -C "$out/before" checkout -q "$commit"
   (cd "$out/before" && rt staticlib closing) >"$out/before.log" 2>&1 || { tail -n 20 "$out/before.log"; exit 1; }
   objcopy --redefine-sym closing_build=before_build --redefine-sym closing_plan=before_plan --redefine-sym closing_run=before_run \
-    "$out/before/target/staticlib/libclosing.a" "$before"
+    --redefine-sym closing_whether=before_whether "$out/before/target/staticlib/libclosing.a" "$before"
 fi
 
 # loops aligned, since where a short loop happens to lie moves its time by half

@@ -12,6 +12,9 @@ int main(void) {
     const struct named_file *check = &workload.check[0];
     closing_build(1000, workload.site.file.byte, workload.site.file.size, store, 256, answer);
     closing_plan(store, 256, check->file.byte, check->file.size, plan, answer);
-    closing_run(store, 256, check->file.byte, check->file.size, plan, 2 * (size_t)answer[1], rows, 64, answer);
-    return answer[0] == CLOSING_ROWS ? 0 : 1;
+    size_t plan_bytes = 2 * (size_t)answer[1];
+    closing_run(store, 256, check->file.byte, check->file.size, plan, plan_bytes, rows, 64, answer);
+    int has_rows = answer[0] == CLOSING_ROWS;
+    closing_whether(store, 256, check->file.byte, check->file.size, plan, plan_bytes, answer);
+    return has_rows && answer[0] == CLOSING_YES ? 0 : 1;
 }

@@ -8,10 +8,16 @@
 
 enum { MOST_TRIPLES = 8, MOST_VARIABLES = 8, COLUMNS = 3 };
 
+/* A prepared statement and the words of its rows. */
+struct query {
+    sqlite3_stmt *statement;
+    uint32_t width;
+};
+
 struct peer {
     sqlite3 *database;
-    sqlite3_stmt *check, *quick_check;
-    uint32_t width;
+    struct query rows, whether;
+    sqlite3_stmt *quick_check;
 };
 
 /* ---- calls of SQLite that must succeed */
@@ -126,7 +132,8 @@ struct peer *peer_load(const uint8_t *site, size_t site_bytes) {
 }
 
 void peer_close(struct peer *peer) {
-    sqlite3_finalize(peer->check);
+    sqlite3_finalize(peer->rows.statement);
+    sqlite3_finalize(peer->whether.statement);
     sqlite3_finalize(peer->quick_check);
     expect(peer->database, sqlite3_close(peer->database) == SQLITE_OK);
     free(peer);
@@ -193,8 +200,8 @@ static void put_conditions(sqlite3_str *text, const struct check *check) {
             put_condition(text, check, (struct column){i, column_name[k]}, check->position[i][k], &separator);
 }
 
-static void put_variables(sqlite3_str *text, const struct check *check, const char *before) {
-    for (uint32_t v = 0; v < check->width; v++) {
+static void put_variables(sqlite3_str *text, const struct check *check, uint32_t width, const char *before) {
+    for (uint32_t v = 0; v < width; v++) {
         sqlite3_str_appendall(text, v == 0 ? before : ", ");
         put_column(text, check->first_use[v]);
     }
@@ -205,16 +212,17 @@ static void put_tables(sqlite3_str *text, const struct check *check) {
         sqlite3_str_appendf(text, "%s fact AS f%u", i == 0 ? " FROM" : ",", i);
 }
 
-/* DISTINCT is not needed: the terms of all variables say which fact each table gives, and no fact is there twice. */
-static char *query_text(sqlite3 *database, const struct check *check) {
+/* The terms of all variables, or of none: then only whether there is a row. DISTINCT is not needed: the terms of all variables say which fact
+ * each table gives, and no fact is there twice. */
+static char *query_text(sqlite3 *database, const struct check *check, uint32_t width) {
     sqlite3_str *text = sqlite3_str_new(database);
-    put_variables(text, check, "SELECT ");
-    if (check->width == 0)
+    put_variables(text, check, width, "SELECT ");
+    if (width == 0)
         sqlite3_str_appendall(text, "SELECT 1");
     put_tables(text, check);
     put_conditions(text, check);
-    put_variables(text, check, " ORDER BY ");
-    if (check->width == 0)
+    put_variables(text, check, width, " ORDER BY ");
+    if (width == 0)
         sqlite3_str_appendall(text, " LIMIT 1");
     return sqlite3_str_finish(text);
 }
@@ -227,14 +235,19 @@ static void bind_terms(sqlite3_stmt *statement, const struct check *check) {
                 bind_term(statement, ++parameter, check->position[i][k] / 2);
 }
 
+/* A query takes the place of the one before. */
+static void prepare_query(sqlite3 *database, const struct check *check, uint32_t width, struct query *query) {
+    char *text = query_text(database, check, width);
+    sqlite3_finalize(query->statement);
+    *query = (struct query){prepare(database, text), width};
+    bind_terms(query->statement, check);
+    sqlite3_free(text);
+}
+
 void peer_prepare(struct peer *peer, const uint8_t *pattern, size_t pattern_bytes) {
     struct check check = read_check(pattern, pattern_bytes);
-    char *text = query_text(peer->database, &check);
-    sqlite3_finalize(peer->check);
-    peer->check = prepare(peer->database, text);
-    peer->width = check.width;
-    bind_terms(peer->check, &check);
-    sqlite3_free(text);
+    prepare_query(peer->database, &check, check.width, &peer->rows);
+    prepare_query(peer->database, &check, 0, &peer->whether);
 }
 
 /* ---- running */
@@ -264,29 +277,40 @@ static int holds_too_much(void *data) {
 }
 
 /* Steps to the end; SIZE_MAX where the rows do not fit. */
-static size_t take_rows(struct peer *peer, uint32_t *rows, size_t row_words) {
+static size_t take_rows(sqlite3 *database, const struct query *query, uint32_t *rows, size_t row_words) {
     size_t count = 0;
     int result;
-    while ((result = sqlite3_step(peer->check)) == SQLITE_ROW) {
-        if (peer->width > row_words)
+    while ((result = sqlite3_step(query->statement)) == SQLITE_ROW) {
+        if (query->width > row_words)
             return SIZE_MAX;
-        for (uint32_t v = 0; v < peer->width; v++)
-            *rows++ = (uint32_t)sqlite3_column_int(peer->check, (int)v);
-        row_words -= peer->width;
+        for (uint32_t v = 0; v < query->width; v++)
+            *rows++ = (uint32_t)sqlite3_column_int(query->statement, (int)v);
+        row_words -= query->width;
         count++;
     }
-    expect(peer->database, result == SQLITE_DONE || result == SQLITE_INTERRUPT);
+    expect(database, result == SQLITE_DONE || result == SQLITE_INTERRUPT);
     return result == SQLITE_DONE ? count : SIZE_MAX;
 }
 
-size_t peer_query(struct peer *peer, uint32_t *rows, size_t row_words, uint32_t *width) {
-    struct watch watch = make_watch(row_words, peer->width);
-    sqlite3_progress_handler(peer->database, INSTRUCTIONS_BETWEEN_LOOKS, holds_too_much, &watch);
-    size_t count = take_rows(peer, rows, row_words);
-    sqlite3_progress_handler(peer->database, 0, NULL, NULL);
-    sqlite3_reset(peer->check);
-    *width = peer->width;
+static size_t run_query(sqlite3 *database, const struct query *query, uint32_t *rows, size_t row_words) {
+    struct watch watch = make_watch(row_words, query->width);
+    sqlite3_progress_handler(database, INSTRUCTIONS_BETWEEN_LOOKS, holds_too_much, &watch);
+    size_t count = take_rows(database, query, rows, row_words);
+    sqlite3_progress_handler(database, 0, NULL, NULL);
+    sqlite3_reset(query->statement);
     return count;
+}
+
+size_t peer_query(struct peer *peer, uint32_t *rows, size_t row_words, uint32_t *width) {
+    *width = peer->rows.width;
+    return run_query(peer->database, &peer->rows, rows, row_words);
+}
+
+int peer_whether(struct peer *peer) {
+    size_t count = run_query(peer->database, &peer->whether, NULL, 0);
+    /* it sorts nothing, so that it is not stopped for its memory */
+    expect(peer->database, count <= 1);
+    return count == 1;
 }
 
 int peer_quick_check(struct peer *peer) {

@@ -13,8 +13,12 @@
     uint32_t way##_plan(const uint32_t *store, size_t store_words, const uint8_t *pattern, size_t pattern_bytes, uint8_t plan[16],         \
                         uint64_t answer[4]);                                                                                               \
     uint32_t way##_run(const uint32_t *store, size_t store_words, const uint8_t *pattern, size_t pattern_bytes, const uint8_t *plan,       \
-                       size_t plan_bytes, uint32_t *rows, size_t row_words, uint64_t answer[4]);
+                       size_t plan_bytes, uint32_t *rows, size_t row_words, uint64_t answer[4]);                                           \
+    uint32_t way##_whether(const uint32_t *store, size_t store_words, const uint8_t *pattern, size_t pattern_bytes, const uint8_t *plan,   \
+                           size_t plan_bytes, uint64_t answer[4]);
 
+/* An archive of before it has no before_whether: linked with one, its address is null. */
+#pragma weak before_whether
 PLAIN_CALLS(before)
 PLAIN_CALLS(search)
 PLAIN_CALLS(best)

@@ -5,6 +5,7 @@ FOLDER holds what was measured; COMMIT is that of the archive of before.
 """
 from bisect import bisect_left, bisect_right
 import math
+from operator import le, lt
 import os
 import platform
 import sys
@@ -172,10 +173,61 @@ def run_table(measured, sites):
     return table(head, rows)
 
 
+def same_check(measured, line, call):
+    """The line of another call, on the same site and check."""
+    return next(x for x in measured if x.call == call and (x.site, x.check) == (line.site, line.check))
+
+
+def over(line, other, time=Line.median):
+    """The engine's time for a call over its time for another."""
+    return time(line, ENGINE) / time(other, ENGINE)
+
+
+def whether_table(measured):
+    rows = []
+    for line in (line for line in measured if line.call == 'whether'):
+        run, planned = same_check(measured, line, 'run'), same_check(measured, line, 'plan')
+        rows.append((line.site, line.check, line.count, found_text(run.found), timed(line, ENGINE), timed(run, ENGINE), cell(over(line, run)),
+                     timed(planned, ENGINE), cell(over(line, planned)), timed(line, PLAIN), cell(line.ratio(PLAIN)), timed(line, BEST),
+                     cell(line.ratio(BEST)), timed(line, QUERY), cell(line.ratio(QUERY)), timed(line, CHECKED), cell(line.ratio(CHECKED), '%.3f')))
+    head = ('site', 'check', 'N', 'rows', 'engine', 'run', 'engine / run', 'plan', 'engine / plan', 'plain C', 'engine / C', 'best C', 'engine / best',
+            'SQLite, LIMIT 1', 'engine / SQLite', 'with quick_check', 'engine / that')
+    return table(head, rows)
+
+
+def whether_limits(measured):
+    """What S-7 limits: a ratio, in words and computed; how it is compared with its limit; and the lines that it is meant for."""
+    told = [line for line in measured if line.call == 'whether']
+    yes = [line for line in told if line.found == 1]
+
+    def over_call(call):
+        return lambda line, time: over(line, same_check(measured, line, call), time)
+
+    def over_best(line, time):
+        return time(line, ENGINE) / time(line, BEST)
+
+    return [('whether / run, where there are rows', over_call('run'), lt, 1, yes),
+            ('whether / plan, at 1,024 rows, where there are rows', over_call('plan'), le, 1.3, [line for line in yes if line.rows == 1024]),
+            ('whether / run', over_call('run'), le, 1.05, told), ('whether / best C', over_best, le, 2, told)]
+
+
+def furthest(ratio, within, limit, asked, time):
+    """The greatest ratio, on which input, and how many are outside the limit."""
+    ratios = [(ratio(line, time), line) for line in asked]
+    greatest, line = max(ratios, key=lambda pair: pair[0])
+    return '%.3f' % greatest, '%s, %s' % (line.site, line.check), sum(not within(value, limit) for value, _ in ratios)
+
+
+def limits_table(measured):
+    rows = [(what, '%s %g' % ('below' if within is lt else 'at most', limit), len(asked)) + furthest(ratio, within, limit, asked, Line.median)
+            + furthest(ratio, within, limit, asked, Line.least) for what, ratio, within, limit, asked in whether_limits(measured)]
+    return table(('what', 'limit', 'inputs', 'furthest, by medians', 'on', 'outside', 'by least times', 'on', 'outside'), rows)
+
+
 def reduced_table(measured):
     rows = []
     for line in (line for line in measured if line.call == 'run, VP alone'):
-        own = next(x for x in measured if x.call == 'run' and (x.site, x.check) == (line.site, line.check))
+        own = same_check(measured, line, 'run')
         rows.append((line.site, line.check, timed(own, ENGINE), timed(line, ENGINE), cell(own.median(ENGINE) / line.median(ENGINE))))
     return table(('site', 'check', "the planner's tables", 'VP alone', 'ratio'), rows)
 
@@ -199,14 +251,30 @@ def has_gaps(line):
 
 
 def best_bounds(what, measured):
-    return bounds(what, [line.ratio(BEST) for line in measured if line.call != 'build'])
+    return bounds(what, [line.ratio(BEST) for line in measured if line.call not in ('build', 'whether')])
+
+
+def whether_text(everything, measured):
+    """The section of the call that only tells whether there is a row."""
+    text = ['## Whether', '', 'Beside run and plan of the same check, whose repeats are interleaved with its own. SQLite is asked for one row, in no order.', '']
+    text += whether_table(measured) + ['', '## The limits of S-7', '']
+    text += ['Over all sites, those with gaps too: the furthest that was measured, and how many inputs are outside the limit.', '']
+    return text + limits_table(everything)
+
+
+def sizes_table(folder):
+    calls = ('build', 'plan', 'run', 'whether')
+    rows = []
+    for what, name in (('stack of a call, bytes', 'stack.txt'), ('instructions on the worked shop', 'instructions.txt')):
+        numbers = dict(line.split() for line in lines(folder, name))
+        rows.append((what,) + tuple('{:,}'.format(int(numbers[call])) for call in calls))
+    return table(('what',) + calls, rows)
 
 
 def results(folder, commit):
     everything = [Line(text) for text in lines(folder, 'times.txt')]
     measured, further = [line for line in everything if not has_gaps(line)], [line for line in everything if has_gaps(line)]
     sites = inputs(folder)
-    small = dict(line.split() for line in lines(folder, 'stack.txt')), dict(line.split() for line in lines(folder, 'instructions.txt'))
     code = lines(folder, 'size.txt')[-1].split()
     worst = max(line.spread(engine) for line in everything for engine in range(6))
     text = ['# What a closing check costs', '', 'Written by `bench/run`; medians of 21 interleaved repeats in one process, on %s. Compare ratios of' % platform.machine(),
@@ -217,12 +285,11 @@ def results(folder, commit):
             bounds('Run over SQLite with quick_check', [line.ratio(CHECKED) for line in measured if line.call == 'run']), '',
             '![time of a run by rows of the site](plot.svg)', '', '## Build', '']
     text += build_table(measured, sites) + ['', '## Plan', ''] + plan_table(measured) + ['', '## Run', ''] + run_table(measured, sites)
+    text += [''] + whether_text(everything, measured)
     text += ['', '## Reduced tables', ''] + reduced_table(measured) + ['', '## How cost grows with rows', '', 'The exponent of time in rows, over shops of 16 to 1,024 rows.', '']
     text += growth_table(measured) + ['', '## Columns with gaps', '', 'Further sites: the same shops with their terms numbered by first appearance, as `tools/site_text.py`',
                                       'numbers names, or scattered over all numbers. ' + best_bounds('Engine over best C, plan and run', further), '']
-    text += plan_table(further) + [''] + run_table(further, sites) + ['', '## Sizes', '']
-    text += table(('what', 'build', 'plan', 'run'), [('stack of a call, bytes',) + tuple('{:,}'.format(int(small[0][c])) for c in ('build', 'plan', 'run')),
-                                                     ('instructions on the worked shop',) + tuple('{:,}'.format(int(small[1][c])) for c in ('build', 'plan', 'run'))])
+    text += plan_table(further) + [''] + run_table(further, sites) + [''] + whether_table(further) + ['', '## Sizes', ''] + sizes_table(folder)
     text += ['', 'Code of the archive: {:,} bytes.'.format(int(code[0])), '', '## Agreement', '', '. '.join(lines(folder, 'agree.txt')) + '.', '']
     with open(os.path.join(HERE, 'NOTES.md')) as notes:
         text.append(notes.read())

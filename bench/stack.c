@@ -45,6 +45,11 @@ static void *run(void *x) {
     return x;
 }
 
+static void *whether(void *x) {
+    closing_whether(store, CLOSING_STORE_WORDS, path, sizeof path, plan, 16, answer);
+    return x;
+}
+
 static size_t depth(void *(*call)(void *)) {
     uint8_t *stack = mmap(NULL, STACK, PROT_READ | PROT_WRITE, MAP_PRIVATE | MAP_ANONYMOUS, -1, 0);
     pthread_attr_t attributes;
@@ -68,5 +73,7 @@ int main(void) {
     printf("build %zu\n", depth(build) - empty);
     printf("plan %zu\n", depth(make_plan) - empty);
     printf("run %zu\n", depth(run) - empty);
-    return answer[0] == CLOSING_ROWS ? 0 : 1;
+    int has_rows = answer[0] == CLOSING_ROWS;
+    printf("whether %zu\n", depth(whether) - empty);
+    return has_rows && answer[0] == CLOSING_YES ? 0 : 1;
 }

@@ -1,5 +1,24 @@
 /* As the engine is: question 10 by ranges, by filter, by walking two columns, and by search. Included by plain.c. */
 
+/* 1 where a is at least b, else 0, by a difference: terms are below the half of a word. */
+static uint32_t at_least(uint32_t a, uint32_t b) { return (0x80000000u + a - b) / 0x80000000u; }
+
+/* In two walks that no row ends, so that several are compared at once. */
+static bool rows_proper(const uint32_t *row, size_t count) {
+    bool terms = true, ascending = true;
+    for (size_t i = 0; i < 2 * count; i++)
+        if (row[i] > MOST_TERM) terms = false;
+    for (size_t i = 1; terms && i < count; i++)
+        if (row[2 * i] < row[2 * i - 2] + at_least(row[2 * i - 1], row[2 * i + 1])) ascending = false;
+    return terms && ascending;
+}
+
+static bool tables_proper(const uint32_t *store, size_t count) {
+    for (const uint32_t *entry = store + 3; entry < store + 3 + 3 * count; entry += 3)
+        if (!rows_proper(store + entry[2], entry[1])) return false;
+    return true;
+}
+
 static bool search_word(const uint32_t *words, size_t stride, size_t n, uint32_t value) {
     return words[stride * (n - 1)] >= value && words[stride * lower_bound(words, stride, n, value)] == value;
 }
