@@ -18,7 +18,6 @@ use Rattle.model.specs.Plan.{Plan}
 use Rattle.model.specs.PlanFile.{readPlan}
 use Rattle.model.specs.Solutions.{IsSolution, solutions}
 use Rattle.model.specs.Calls.{Outcome, outcome, over, unaltered, either, question, Check, givenPlan, noneByCounts, rowsOutcome, run, yesOrNo, whether}
-use Rattle.model.specs.declared.answer.Answer.{Answer}
 use Rattle.model.specs.declared.answer.Answer.the-variants.{Rows, None, Yes, No, Refused}
 use Rattle.model.proofs.Solutions.{solutions-sound, solutions-complete}
 use Rattle.model.proofs.PatternFile.{pattern-accepted}
