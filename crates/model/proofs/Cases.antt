@@ -17,7 +17,7 @@ use Rattle.model.specs.PlanFile.{step, readPlan}
 use Rattle.model.specs.Planner.{tableRows, chooseTable, isJoined, termCount, chosenRows, beats, competitors, pick, order, planned}
 use Rattle.model.specs.Solutions.{terms, rowsOver, isSolution, solutions}
 use Rattle.model.specs.Join.{extend, joinTable, joined, joinRows}
-use Rattle.model.specs.Calls.{Outcome, outcome, either, build, checked, givenPlan, plan, noneByCounts, rowsOutcome, run, yesOrNo, whether, numberOf, valuesOf, planBytesOf, seenOf, seenOfPlan}
+use Rattle.model.specs.Calls.{Outcome, outcome, either, build, checked, givenPlan, plan, noneByCounts, rowsOutcome, run, yesOrNo, whether, numberOf, valuesOf, planBytesOf, seenOf, seenOfAnswer, seenOfPlan}
 use Rattle.model.specs.Chain.{isRefused, planAndRun, chain}
 use Rattle.model.specs.Text.{decimalWithin, decimal, spaced, rowLine, firstLine, rowLines, printed}
 use Rattle.model.specs.declared.answer.Answer.{Answer}
@@ -99,6 +99,10 @@ joinWords bytes plan = concatMap (λ row. row) (joinRows (siteIn (readSite shop)
 abbrev pub told : Outcome → Outcome
 told o = let s = seenOf o (lent 4) in outcome (o .answer) (s .number ∷ (s .values ++ s .memory))
 
+-- what a caller sees of an answer beside which no memory is lent
+abbrev pub toldAnswer : Answer → Outcome
+toldAnswer a = let s = seenOfAnswer a (lent 4) in outcome a (s .number ∷ (s .values ++ s .memory))
+
 -- what a caller sees of a plan's answer: the same, and sixteen bytes lent for the plan
 abbrev pub toldPlan : Planned → Outcome
 toldPlan p = let s = seenOfPlan p (lent 16) (lent 4) in outcome (p .answer) (s .number ∷ (s .values ++ s .memory))
@@ -158,14 +162,14 @@ cases =
     )
     ∷ (answered (whether (stored 1000) check chosenPlan), answered Yes)
     ∷ (answered (whether (stored 1000) check writtenPlan), answered Yes)
-    ∷ (told (answered Yes), outcome Yes (0 ∷ 5 ∷ 0 ∷ 0 ∷ 0 ∷ []))
+    ∷ (toldAnswer Yes, outcome Yes (0 ∷ 5 ∷ 0 ∷ 0 ∷ 0 ∷ []))
     -- (d) first choice 7 at place 0: 20; place 0 twice: 19
     ∷ (run (stored 1000) check (0x00 ∷ 0x07 ∷ 0x01 ∷ 0x00 ∷ 0x02 ∷ 0x00 ∷ []) (lent 3), outcome (Refused 20) (7 ∷ 7 ∷ 7 ∷ []))
     ∷ (run (stored 1000) check (0x00 ∷ 0x00 ∷ 0x00 ∷ 0x00 ∷ 0x02 ∷ 0x00 ∷ []) (lent 3), outcome (Refused 19) (7 ∷ 7 ∷ 7 ∷ []))
     ∷ (answered (whether (stored 1000) check (0x00 ∷ 0x07 ∷ 0x01 ∷ 0x00 ∷ 0x02 ∷ 0x00 ∷ [])), answered (Refused 20))
-    ∷ (told (answered (Refused 20)), outcome (Refused 20) (20 ∷ lent 4))
+    ∷ (toldAnswer (Refused 20), outcome (Refused 20) (20 ∷ lent 4))
     ∷ (answered (whether (stored 1000) check (0x00 ∷ 0x00 ∷ 0x00 ∷ 0x00 ∷ 0x02 ∷ 0x00 ∷ [])), answered (Refused 19))
-    ∷ (told (answered (Refused 19)), outcome (Refused 19) (19 ∷ lent 4))
+    ∷ (toldAnswer (Refused 19), outcome (Refused 19) (19 ∷ lent 4))
     -- (e) a site of no bytes: 2; of no predicates: 3 words, and then a pattern on predicate 1: 14; a store of zeros: 10
     ∷ (build 1000 [] (lent 4), outcome (Refused 2) (7 ∷ 7 ∷ 7 ∷ 7 ∷ []))
     ∷ (build 1000 (0x00 ∷ []) (lent 4), outcome (Built 3) (0 ∷ 1000 ∷ 3 ∷ 7 ∷ []))
@@ -183,15 +187,15 @@ cases =
     )
     ∷ (run (replicate 84 0) check chosenPlan (lent 3), outcome (Refused 10) (7 ∷ 7 ∷ 7 ∷ []))
     ∷ (answered (whether (0 ∷ 1000 ∷ 3 ∷ []) (0x01 ∷ 0x01 ∷ 0x02 ∷ 0x03 ∷ []) (0x00 ∷ 0x00 ∷ [])), answered (Refused 14))
-    ∷ (told (answered (Refused 14)), outcome (Refused 14) (14 ∷ lent 4))
+    ∷ (toldAnswer (Refused 14), outcome (Refused 14) (14 ∷ lent 4))
     ∷ (answered (whether (replicate 84 0) check chosenPlan), answered (Refused 10))
-    ∷ (told (answered (Refused 10)), outcome (Refused 10) (10 ∷ lent 4))
+    ∷ (toldAnswer (Refused 10), outcome (Refused 10) (10 ∷ lent 4))
     -- (f) 10 covers 20, and 10 covers 21
     ∷ (run (stored 1000) (0x01 ∷ 0x14 ∷ 0x02 ∷ 0x28 ∷ []) (0x00 ∷ 0x00 ∷ []) (lent 1), outcome (Rows 1 0) (7 ∷ []))
     ∷ (run (stored 1000) (0x01 ∷ 0x14 ∷ 0x02 ∷ 0x2A ∷ []) (0x00 ∷ 0x00 ∷ []) (lent 1), outcome None (7 ∷ []))
     ∷ (answered (whether (stored 1000) (0x01 ∷ 0x14 ∷ 0x02 ∷ 0x28 ∷ []) (0x00 ∷ 0x00 ∷ [])), answered Yes)
     ∷ (answered (whether (stored 1000) (0x01 ∷ 0x14 ∷ 0x02 ∷ 0x2A ∷ []) (0x00 ∷ 0x00 ∷ [])), answered No)
-    ∷ (told (answered No), outcome No (0 ∷ 6 ∷ 0 ∷ 0 ∷ 0 ∷ []))
+    ∷ (toldAnswer No, outcome No (0 ∷ 6 ∷ 0 ∷ 0 ∷ 0 ∷ []))
     -- (g) ?0 covers ?0
     ∷ (run (stored 1000) (0x01 ∷ 0x01 ∷ 0x02 ∷ 0x01 ∷ []) (0x00 ∷ 0x00 ∷ []) (lent 1), outcome None (7 ∷ []))
     ∷ (told (outcome None (7 ∷ [])), outcome None (0 ∷ 2 ∷ 0 ∷ 0 ∷ 0 ∷ 7 ∷ []))
