@@ -44,7 +44,7 @@ extern "C" {
 #define CLOSING_VERSION 2
 
 /* A store of this many words holds every site at every threshold: with it closing_build never returns 9 (a law: Store-Words-Suffice
- * in crates/model/proofs/Demands.antt). Most sites need far fewer; 01's shop needs 84. */
+ * in crates/model/proofs/Demands/Store.antt). Most sites need far fewer; 01's shop needs 84. */
 #define CLOSING_STORE_WORDS 101939
 
 /* Kinds of answers, in answer[0], and what stands behind them in answer[1] and answer[2]. answer[3] is 0. */
