@@ -1,5 +1,5 @@
 ghost use mathlib.Core.Path.{_≡_};
-ghost use Prim.Native.Nat.{_<_};
+ghost use Prim.Native.Nat.{_<_, _+_};
 ghost use Rattle.searching.specs.Search.{SortedRun, FirstBelow, IsLowerBound, hasWord};
 
 // How many of n ascending words, `stride` apart from `base` on, are below a value.
@@ -63,6 +63,17 @@ pub fn lower_bound_from(
         place += 1;
     }
     place
+}
+
+// How many of n ascending words are at most a value.
+pub fn upper_bound(words: &[u32], base: usize, stride: usize, n: usize, value: u32) -> usize
+    requires { ⌜ SortedRun (now words) base stride n ⌝ }
+    ensures { λ r. ⌜ IsLowerBound (now (words .entry)) base stride n (value + 1) r ⌝ }
+{
+    if n == 0 || words[base + stride * (n - 1)] <= value {
+        return n;
+    }
+    guessed_lower_bound(words, base, stride, n, value + 1)
 }
 
 // Whether one of n ascending words has a value, by search.

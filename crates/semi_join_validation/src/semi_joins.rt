@@ -9,11 +9,11 @@ ghost use Rattle.tables.specs.LeftRows.{leftOf};
 ghost use Rattle.tables.specs.SiteWords.{siteIn, ImageOf, reducedAt};
 ghost use Rattle.probes.specs.Probed.{Probed};
 ghost use Rattle.statistics.specs.IndexedTables.{IndexedTables};
+ghost use Rattle.statistics.specs.Ranges.{ColumnRange};
 ghost use Rattle.semi_join_validation.specs.Joins.{SemiJoinWords, storedHolds, joinHolds, joinsHold};
 ghost use Rattle.site_validation.specs.declared.entries.Extent.the-variants.{Ends, Invalid};
 use crate::empty_pairs::is_empty_pair;
 use probes::counting::count_partnered;
-use probes::one_hash_filter::should_filter;
 use site_validation::entries::Extent;
 use statistics::objects::copy_objects;
 use statistics::ranges::collect_statistics;
@@ -41,15 +41,15 @@ fn stored_end(
     here: usize,
     used: usize,
 ) -> Extent
-    requires { ⌜ Probed (now w) (now objects) first o × (left ≤ o .rows) × (here ≤ used) × (used ≤ length (now w)) × (place + 3 ≤ 96) ⌝ }
+    requires { ⌜ Probed (now w) (now objects) first o × (left ≤ o .rows) × (here ≤ used) × (used ≤ length (now w)) ⌝ }
+    requires { ⌜ (place + 3 ≤ 96) × ColumnRange (now w) (o .against) (o .partners) (o .other) (now ranges) place ⌝ }
     ensures { λ r. ⌜ r ≡ cond (storedHolds (now (w .entry)) (leftOf (now (w .entry)) o) start left here used) (Ends (here + 2 * left)) Invalid ⌝ }
 {
     let end = here + 2 * left;
     if start != here || used < end {
         return Extent::Invalid;
     }
-    let filtered = should_filter(ranges, place, o.partners);
-    if compare_partnered(w, objects, first, o, filtered, here, left) {
+    if compare_partnered(w, objects, first, ranges, place, o, here, left) {
         return Extent::Ends(end);
     }
     Extent::Invalid

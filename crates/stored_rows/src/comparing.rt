@@ -6,11 +6,13 @@ ghost use Rattle.model.specs.Lists.{filter, sameWords};
 ghost use Rattle.model.specs.Store.{rowsIn, tableWords};
 ghost use Rattle.tables.specs.LeftRows.{leftOf};
 ghost use Rattle.searching.specs.Search.{SortedRun, hasWord};
-ghost use Rattle.statistics.specs.Ranges.{hasValue};
+ghost use Rattle.statistics.specs.Ranges.{hasValue, ColumnRange};
 ghost use Rattle.probes.specs.OneHashFilter.{ContainsAll};
 ghost use Rattle.probes.specs.Probed.{Probed};
 ghost use Rattle.stored_rows.specs.StoredRows.{standsNext};
+use crate::between::compare_between;
 use probes::one_hash_filter::insert_values;
+use probes::one_hash_filter::should_filter;
 use probes::values::has_partner;
 use probes::walking::walk_to;
 use tables::operands::Operands;
@@ -146,20 +148,28 @@ fn compare_filtered(
     )
 }
 
-// The same, with a filter of the partners' values or without.
+// The same, by the range of the partners' column, which stands at `place`: where each number of it is a value and the own column is the subject,
+// no partner is looked for; else with a filter of the partners' values or without.
 pub fn compare_partnered(
     w: &[u32],
     objects: &[u32],
     first: usize,
+    ranges: &[u32; 96],
+    place: usize,
     o: Operands,
-    filtered: bool,
     at: usize,
     k: usize,
 ) -> bool
     requires { ⌜ Probed (now w) (now objects) first o × (at + 2 * k ≤ length (now w)) ⌝ }
+    requires { ⌜ (place + 3 ≤ 96) × ColumnRange (now w) (o .against) (o .partners) (o .other) (now ranges) place ⌝ }
     ensures { λ r. ⌜ r ≡ sameWords (take (2 * k) (drop at (now (w .entry)))) (tableWords (leftOf (now (w .entry)) o)) ⌝ }
 {
-    if !filtered {
+    if o.own == 0 && ranges[place + 2] == 1 {
+        let lowest = ranges[place];
+        let highest = ranges[place + 1];
+        return compare_between(w, o.start, o.rows, lowest, highest, at, k);
+    }
+    if !should_filter(ranges, place, o.partners) {
         // Fewer slots than remainders: no filter.
         return compare_filtered(w, objects, first, o, &[0u8; 1], at, k);
     }

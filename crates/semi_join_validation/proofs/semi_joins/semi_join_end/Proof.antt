@@ -1,7 +1,7 @@
 -- The entry stands inside; each way out answers as the test of the entry and of the rows does.
-use Prim.Native.Nat.{ℕ, _+_, _*_, _<_}
+use Prim.Native.Nat.{ℕ, _+_, _*_, _≤_, _<_}
 use native.Mathlib.Omega.{arith}
-use mathlib.Core.Path.{_≡_, refl, sym, ap, ap₂, _∙_}
+use mathlib.Core.Path.{_≡_, refl, sym, ap, ap₂, _∙_, subst}
 use mathlib.Core.Logic.{⊎-elim}
 use mathlib.Core.Bool.{true, false}
 use lib.ListN.{length, getD}
@@ -16,7 +16,7 @@ use Rattle.tables.specs.SiteWords.{siteIn, reducedAt}
 use Rattle.tables.proofs.Images.{few-predicates, entries-inside}
 use Rattle.tables.proofs.Entries.{place-below, counted-of, left-fewer}
 use Rattle.statistics.specs.IndexedTables.{SearchableBy}
-use Rattle.statistics.specs.Ranges.{rangeAt, apart}
+use Rattle.statistics.specs.Ranges.{rangeAt, ColumnRange, apart}
 use Rattle.semi_join_validation.proofs.EmptyPairs.{apart-none, none-stored}
 use Rattle.semi_join_validation.proofs.IndexedOperands.{rows-searchable, own-range, partner-range, rows-by-column, partners-by-column}
 use Rattle.semi_join_validation.proofs.Join.{stored-same, ends-wrong, ends-stored, not-stored, ends-not-stored}
@@ -106,6 +106,17 @@ module _ (c : tie.After-columns-apart) where
   partner-side left =
       partners-by-column (first .pre .1 .0) (first .pre .1 .1) (first .pre .0 .1) (first .pre .0 .2) (first .pre .0 .3) _ (operands .operands-of .ensures .1) (own-column operands .0) (partner-column operands .0) (answer ∙ left)
 
+  -- the range of the partners' column stands at its place
+  their-range : let o = operands .operands-of .result in let place = c .before .range-at2 .result in
+      (place + 3 ≤ 96) × ColumnRange (first .args .w .now) (o .against) (o .partners) (o .other) (first .args .ranges .now) place
+  their-range = (
+    omega (arith, c .before .range-at2 .ensures, few first .1, partner-column operands .0),
+    subst
+        (ColumnRange (first .args .w .now) (operands .operands-of .result .against) (operands .operands-of .result .partners) (other operands) (first .args .ranges .now))
+        (sym (c .before .range-at2 .ensures))
+        (partner-range (first .pre .1 .0) (first .pre .1 .1) (first .pre .0 .1) (first .pre .0 .2) (first .pre .0 .3) _ (operands .operands-of .ensures .1) (own-column operands .0) (partner-column operands .0)),
+  )
+
 -- whether the rows would be stored, by the rows that the semi-join is of
 asked : (c : tie.After-is-stored) → let e = read (c .before .before) in
     isStored (begun e .args .t) (getD (begun e .args .w .now) (entryAt (begun e)) 0) (length (semiJoinOf (begun e) .full)) ≡ c .is-stored .result
@@ -172,15 +183,17 @@ stored-end-requires c κs =
     let after = apart-not .before in
     let o = operands after in
     let s = start o in (
-      record {
-        rows = rows-searchable (s .pre .1 .0) (s .pre .1 .1) (s .pre .0 .1) (s .pre .0 .2) (s .pre .0 .3) _ (o .operands-of .ensures .1) (own-column o .0) (partner-column o .0);
-        own-column = own-column o .0;
-        partners = partner-side after (apart-not .if2 .left);
-      },
-      omega (arith, after .before .before .before .if1 .left),
-      s .pre .0 .5,
-      s .pre .0 .6,
-      omega (arith, after .before .range-at2 .ensures, few s .1, partner-column o .0),
+      (
+        record {
+          rows = rows-searchable (s .pre .1 .0) (s .pre .1 .1) (s .pre .0 .1) (s .pre .0 .2) (s .pre .0 .3) _ (o .operands-of .ensures .1) (own-column o .0) (partner-column o .0);
+          own-column = own-column o .0;
+          partners = partner-side after (apart-not .if2 .left);
+        },
+        omega (arith, after .before .before .before .if1 .left),
+        s .pre .0 .5,
+        s .pre .0 .6,
+      ),
+      their-range after,
     )
 
 returns-4 : tie.Need-returns-4
@@ -205,11 +218,7 @@ count-partnered-requires c κs =
           rw (after .before .before .range-at .ensures)
               (own-range (s .pre .1 .0) (s .pre .1 .1) (s .pre .0 .1) (s .pre .0 .2) (s .pre .0 .3) _ (o .operands-of .ensures .1) (own-column o .0) (partner-column o .0)),
         ),
-        (
-          omega (arith, after .before .range-at2 .ensures, partner-column o .0),
-          rw (after .before .range-at2 .ensures)
-              (partner-range (s .pre .1 .0) (s .pre .1 .1) (s .pre .0 .1) (s .pre .0 .2) (s .pre .0 .3) _ (o .operands-of .ensures .1) (own-column o .0) (partner-column o .0)),
-        ),
+        their-range after,
       ),
     )
 

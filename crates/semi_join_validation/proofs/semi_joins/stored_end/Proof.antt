@@ -18,17 +18,14 @@ add-end c = search needs
 returns : tie.Need-returns
 returns c = stored-wrong _ _ _ _ _ _ (λ x. ⊎-elim (λ w. w .taken (x .begins)) (λ w. not-both (w .1 .taken) (le-ltb _ _ (x .room))) (c .if1 .came))
 
-should-filter-requires : tie.Need-should-filter-requires
-should-filter-requires c κs = search needs
-
 compare-partnered-requires : tie.Need-compare-partnered-requires
 compare-partnered-requires c κs =
-    let pre = c .before .before .before .before .before .pre in
-    (pre .0, le-trans (ltb-false _ _ (c .before .if2 .left)) (pre .3))
+    let pre = c .before .before .before .before .pre in
+    ((pre .0 .0, le-trans (ltb-false _ _ (c .if2 .left)) (pre .0 .3)), pre .1)
 
 returns-2 : tie.Need-returns-2
 returns-2 c = stored-at _ _ _ _ _ _
-    (record { begins = c .before .before .before .before .if1 .left; room = ltb-false _ _ (c .before .before .before .if2 .left); same = sym (c .before .compare-partnered .ensures) ∙ c .if3 .taken })
+    (record { begins = c .before .before .before .if1 .left; room = ltb-false _ _ (c .before .before .if2 .left); same = sym (c .before .compare-partnered .ensures) ∙ c .if3 .taken })
 
 returns-3 : tie.Need-returns-3
 returns-3 c = stored-wrong _ _ _ _ _ _ (λ x. not-both (x .same) (sym (c .before .compare-partnered .ensures) ∙ c .if3 .left))
@@ -40,7 +37,6 @@ stored-end-spec =
     mul-end
     add-end
     returns
-    should-filter-requires
     compare-partnered-requires
     returns-2
     returns-3)
