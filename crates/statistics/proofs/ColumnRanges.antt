@@ -51,6 +51,17 @@ module _ (words : List ℕ) (base stride : ℕ) where
   pub not-near : (n i : ℕ) → i + 1 < n → (Near i → ⊥) → false ≡ isGapless words base stride n
   not-near n i h far = sym (to-false (isGapless words base stride n) (λ e. far (near-all n e i h)))
 
+  -- one word more has no gap before it
+  pub gapless-more : (i : ℕ) → 0 < i → wordAt words base stride i ≤ wordAt words base stride (i - 1) + 1 → isGapless words base stride i ≡ true
+      → isGapless words base stride (i + 1) ≡ true
+  gapless-more i some near e = sym (all-near (i + 1) (λ j h. below-more Near (i - 1) (λ k l. near-all i e k (omega arith)) last j (omega arith)))
+    where
+      back : i - 1 + 1 ≡ i
+      back = omega arith
+
+      last : Near (i - 1)
+      last = rw (ap (wordAt words base stride) back) near
+
   -- each value between the first and the last is one of them
   reached : (n x : ℕ) → ((i : ℕ) → i + 1 < n → Near i) → 0 < n → wordAt words base stride 0 ≤ x → x ≤ wordAt words base stride (n - 1)
       → (i : ℕ) × (i < n) × (wordAt words base stride i ≡ x)
@@ -79,11 +90,6 @@ module _ (words : List ℕ) (base stride : ℕ) where
       sym (word-found words base stride i h same)
 
 -- ---- ranges
-
--- of no words the empty one
-pub no-range : (words : List ℕ) (base stride : ℕ) → RangeOf (hasWord words base stride 0) 1 0 0
-unfolding hasWord
-no-range words base stride = record { between = λ x e. absurd (false≢true e); attained = λ l. absurd (omega arith); gapless = λ e. absurd (omega arith) }
 
 -- ascending words are between the first and the last
 pub range : (words : List ℕ) (base stride n whole : ℕ) → Ascending words base stride n → 0 < n → (whole ≡ 1 → isGapless words base stride n ≡ true)
@@ -133,8 +139,8 @@ range-more {p} {q} {lowest} {highest} {low} {high} v is some low-own low-others 
 
 -- the values of one row more
 module _ (words : List ℕ) (start : ℕ) where
-  pub no-values : RangeOf (hasValue words start 0 1) 1 0 0
-  no-values = record { between = λ x e. absurd (false≢true e); attained = λ l. absurd (omega arith); gapless = λ e. absurd (omega arith) }
+  pub no-values : (column : ℕ) → RangeOf (hasValue words start 0 column) 1 0 0
+  no-values column = record { between = λ x e. absurd (false≢true e); attained = λ l. absurd (omega arith); gapless = λ e. absurd (omega arith) }
 
   pub value-more : (i column : ℕ) → column < 2 → start + 2 * (i + 1) ≤ length words → (x : ℕ)
       → hasValue words start (i + 1) column x ≡ (hasValue words start i column x || eqb x (getD words (start + 2 * i + column) 0))

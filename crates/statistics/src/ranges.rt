@@ -3,17 +3,10 @@ ghost use Prim.Native.Nat.{_<_, _≤_, _+_, _*_};
 ghost use lib.ListN.{length, set};
 ghost use Rattle.model.specs.Site.{mostPredicates};
 ghost use Rattle.tables.specs.SiteWords.{ImageOf};
-ghost use Rattle.searching.specs.Search.{SortedRun, hasWord};
+ghost use Rattle.searching.specs.Search.{SortedRun};
 ghost use Rattle.statistics.specs.Compared.{areCompared};
 ghost use Rattle.statistics.specs.Ranges.{isGapless, RangeOf, rangeAt, hasValue, AllMeasured, apart, isReached, objectsReached};
 use tables::layout::table_entry;
-
-// The values of a column: the lowest, the highest, and 1 where each number between them is a value too.
-pub struct Range {
-    pub lowest: u32,
-    pub highest: u32,
-    pub whole: u32,
-}
 
 // Whether each of n ascending words is at most one above the word before it, so that no number between the first and the last is missing.
 pub fn is_gapless(words: &[u32], base: usize, stride: usize, n: usize) -> bool
@@ -28,71 +21,66 @@ pub fn is_gapless(words: &[u32], base: usize, stride: usize, n: usize) -> bool
     true
 }
 
-// The range of n ascending words; that of none is empty.
-fn range_of(words: &[u32], base: usize, stride: usize, n: usize) -> Range
-    requires { ⌜ SortedRun (now words) base stride n ⌝ }
-    ensures { λ r. ⌜ RangeOf (hasWord (now (words .entry)) base stride n) (r .lowest) (r .highest) (r .whole) ⌝ }
-{
-    if n == 0 {
-        return Range {
-            lowest: 1,
-            highest: 0,
-            whole: 0,
-        };
-    }
-    let lowest = words[base];
-    let highest = words[base + stride * (n - 1)];
-    if is_gapless(words, base, stride, n) {
-        return Range {
-            lowest,
-            highest,
-            whole: 1,
-        };
-    }
-    Range {
-        lowest,
-        highest,
-        whole: 0,
-    }
-}
-
-// Writes the three numbers of a range.
-fn put_range(ranges: &mut [u32; 96], at: usize, range: Range)
+// Writes a range: the lowest value of a column, the highest, and 1 where each number between them is known to be a value too.
+fn put_range(ranges: &mut [u32; 96], at: usize, lowest: u32, highest: u32, whole: u32)
     requires { ⌜ (at + 3 ≤ 96) × (length (now ranges) ≡ 96) ⌝ }
-    ensures { λ _. ⌜ now (ranges .exit) ≡ set (set (set (now (ranges .entry)) at (range .lowest)) (at + 1) (range .highest)) (at + 2) (range .whole) ⌝ }
+    ensures { λ _. ⌜ now (ranges .exit) ≡ set (set (set (now (ranges .entry)) at lowest) (at + 1) highest) (at + 2) whole ⌝ }
 {
-    ranges[at] = range.lowest;
-    ranges[at + 1] = range.highest;
-    ranges[at + 2] = range.whole;
+    ranges[at] = lowest;
+    ranges[at + 1] = highest;
+    ranges[at + 2] = whole;
 }
 
-// The range of the objects of the n rows at `start`, in no order: whether numbers are missing is not asked.
-fn object_range(w: &[u32], start: usize, n: usize) -> Range
-    requires { ⌜ start + 2 * n ≤ length (now w) ⌝ }
-    ensures { λ r. ⌜ RangeOf (hasValue (now (w .entry)) start n 1) (r .lowest) (r .highest) (r .whole) ⌝ }
+// The ranges of a table's columns. Subjects ascend: the first, the last, and 1 where each number between them is a subject too. Objects are
+// in no order: the lowest and the highest.
+pub struct Columns {
+    pub first: u32,
+    pub last: u32,
+    pub whole: u32,
+    pub lowest: u32,
+    pub highest: u32,
+}
+
+// The ranges of the columns of the n rows at `start`; those of none are empty. No row ends the walk, so that several are looked at at once.
+fn column_ranges(w: &[u32], start: usize, n: usize) -> Columns
+    requires { ⌜ SortedRun (now w) start 2 n ⌝ }
+    ensures { λ r. ⌜ RangeOf (hasValue (now (w .entry)) start n 0) (r .first) (r .last) (r .whole) ⌝ }
+    ensures { λ r. ⌜ RangeOf (hasValue (now (w .entry)) start n 1) (r .lowest) (r .highest) 0 ⌝ }
 {
     if n == 0 {
-        return Range {
+        return Columns {
+            first: 1,
+            last: 0,
+            whole: 0,
             lowest: 1,
             highest: 0,
-            whole: 0,
         };
     }
+    let first = w[start];
+    let mut last = first;
+    let mut whole: u32 = 1;
     let mut lowest = w[start + 1];
     let mut highest = lowest;
     for i in 1..n {
-        let value = w[start + 2 * i + 1];
-        if value < lowest {
-            lowest = value;
+        let subject = w[start + 2 * i];
+        let object = w[start + 2 * i + 1];
+        if 1 < subject - last {
+            whole = 0;
         }
-        if highest < value {
-            highest = value;
+        last = subject;
+        if object < lowest {
+            lowest = object;
+        }
+        if highest < object {
+            highest = object;
         }
     }
-    Range {
+    Columns {
+        first,
+        last,
+        whole,
         lowest,
         highest,
-        whole: 0,
     }
 }
 
@@ -111,12 +99,9 @@ pub fn collect_statistics(w: &[u32], count: usize, ranges: &mut [u32; 96])
 {
     for i in 0..count {
         let table = table_entry(w, i);
-        let n = table.rows;
-        let start = table.start;
-        let subjects = range_of(w, start, 2, n);
-        put_range(ranges, range_at(i, 0), subjects);
-        let objects = object_range(w, start, n);
-        put_range(ranges, range_at(i, 1), objects);
+        let c = column_ranges(w, table.start, table.rows);
+        put_range(ranges, range_at(i, 0), c.first, c.last, c.whole);
+        put_range(ranges, range_at(i, 1), c.lowest, c.highest, 0);
     }
 }
 

@@ -7,8 +7,7 @@ use Rattle.searching.specs.Search.{SortedRun}
 use Rattle.model.specs.Site.{mostPredicates}
 use Rattle.tables.proofs.Images.{entry-inside}
 use Rattle.statistics.specs.Ranges.{AllMeasured}
-use Rattle.statistics.proofs.ColumnRanges.{range-same, table-measured}
-use Rattle.statistics.proofs.Partnered.{same-answers, same-subjects}
+use Rattle.statistics.proofs.ColumnRanges.{table-measured}
 use Rattle.statistics.proofs.SearchableTables.{entry-run}
 use Rattle.statistics.proofs.ranges.collect_statistics.Statement.{statement}
 use Rattle.statistics.proofs.ranges.collect_statistics.Tie as tie
@@ -40,8 +39,8 @@ loop-holds c = (omega arith, c .before .pre .1, λ i h. absurd (omega arith))
 table-entry-requires : tie.Need-table-entry-requires Inv-loop μ-loop
 table-entry-requires c κs = entry-inside (c .before .before .before .pre .0) _ (c .loop-test .taken)
 
-range-of-requires : tie.Need-range-of-requires Inv-loop μ-loop
-range-of-requires c κs = table c
+column-ranges-requires : tie.Need-column-ranges-requires Inv-loop μ-loop
+column-ranges-requires c κs = table c
 
 range-at-requires : tie.Need-range-at-requires Inv-loop μ-loop
 range-at-requires c κs = (few (c .before .before), omega arith)
@@ -51,16 +50,13 @@ put-range-requires c κs =
     let entry = c .before .before .before in
     (omega (arith, c .range-at .ensures, few entry), turn entry .before .loop .inv .1)
 
-object-range-requires : tie.Need-object-range-requires Inv-loop μ-loop
-object-range-requires c κs = table (c .before .before .before .before) .inside
-
 range-at-requires-2 : tie.Need-range-at-requires-2 Inv-loop μ-loop
-range-at-requires-2 c κs = (few (c .before .before .before .before .before .before), omega arith)
+range-at-requires-2 c κs = (few (c .before .before .before .before .before), omega arith)
 
 put-range-requires-2 : tie.Need-put-range-requires-2 Inv-loop μ-loop
 put-range-requires-2 c κs =
-    let entry = c .before .before .before .before .before .before .before in
-    let put = c .before .before .before .put-range in
+    let entry = c .before .before .before .before .before .before in
+    let put = c .before .before .put-range in
     (omega (arith, c .range-at2 .ensures, few entry), ap length (put .ensures) ∙ simp length-set (turn entry .before .loop .inv .1))
 
 add-i : tie.Need-add-i Inv-loop μ-loop
@@ -71,15 +67,15 @@ loop-less c = omega arith
 
 loop-again : tie.Need-loop-again Inv-loop μ-loop
 loop-again c =
-    let entry = c .before .before .before .before .before .before .before .before in
+    let first = c .before .before .before in
+    let columns = first .before .before .before in
+    let entry = columns .before in
     let loop = turn entry .before .loop in
-    let inv = loop .inv in
-    let first = c .before .before .before .before in
-    let subjects = range-same (same-answers (same-subjects _ _ _ (table entry .inside))) (first .before .before .before .range-of .ensures) in (
+    let inv = loop .inv in (
       omega arith,
       ap length (c .put-range2 .ensures) ∙ simp length-set (ap length (first .put-range .ensures) ∙ simp length-set (inv .1)),
       rw (c .put-range2 .ensures, first .put-range .ensures, c .before .range-at2 .ensures, first .before .range-at .ensures)
-          (table-measured (start entry .args .w .now) (loop .ranges) (loop .i) _ (entry .table-entry .ensures) (omega (arith, few entry, inv .1)) (inv .2) subjects (c .before .before .before .object-range .ensures)),
+          (table-measured (start entry .args .w .now) (loop .ranges) (loop .i) _ (entry .table-entry .ensures) (omega (arith, few entry, inv .1)) (inv .2) (columns .column-ranges .ensures .0) (columns .column-ranges .ensures .1)),
     )
 
 returns : tie.Need-returns Inv-loop μ-loop
@@ -93,10 +89,9 @@ collect-statistics-spec =
     μ-loop
     loop-holds
     table-entry-requires
-    range-of-requires
+    column-ranges-requires
     range-at-requires
     put-range-requires
-    object-range-requires
     range-at-requires-2
     put-range-requires-2
     add-i
