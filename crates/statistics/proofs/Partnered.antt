@@ -5,7 +5,7 @@ use native.Mathlib.Numerals.{add-one}
 use mathlib.Core.Path.{_≡_, refl, sym, ap, _∙_}
 use mathlib.Core.Bool.{Bool, true, false, cond, _||_}
 use mathlib.Core.List.{List, [], _∷_, _++_}
-use lib.ListN.{length, getD, drop}
+use lib.ListN.{length, getD, drop, length-append}
 use lib.Dec.{eqb, ltb}
 use borrow.Author.Tests.{lt-ltb}
 use Rattle.model.specs.Lists.{any, filter, below}
@@ -18,8 +18,9 @@ use Rattle.model.proofs.PlanFile.{eqb-comm}
 use Rattle.model.proofs.Counting.{filter-count, num, count, count-append}
 use Rattle.searching.specs.Search.{wordAt, SortedRun, hasWord}
 use Rattle.tables.specs.Columns.{columnOf, kindOfColumns}
+use Rattle.tables.specs.LeftRows.{leftRows}
 use Rattle.model.proofs.Rows.{rowAt, rows-at}
-use Rattle.tables.proofs.Partners.{hasPartner, at-column}
+use Rattle.tables.proofs.Partners.{hasPartner, partner-found, at-column, row-left}
 use Rattle.statistics.specs.IndexedTables.{passing, SameValues, copyAt, Searchable, ObjectsSorted}
 use Rattle.statistics.specs.Ranges.{hasValue}
 
@@ -92,6 +93,13 @@ pub partner-of-value : (w : List ℕ) (p i own q n other : ℕ) → own < 2
     → hasPartner w p i own q n other ≡ any (λ s. eqb (getD w (p + 2 * i + own) 0) (at (columnOf other) s)) (rowsIn n (drop q w))
 unfolding hasPartner
 partner-of-value w p i own q n other h = ap (λ (v : ℕ). any (λ s. eqb v (at (columnOf other) s)) (rowsIn n (drop q w))) (at-column w p i own h)
+
+-- of rows that are among their partners, by one column, all are left
+pub own-left : (w : List ℕ) (p own n : ℕ) → own < 2 → p + 2 * n ≤ length w → (k : ℕ) → k ≤ n → length (leftRows w p k own p n own) ≡ k
+unfolding leftRows semiJoin
+own-left w p own n h inside zero l = refl
+own-left w p own n h inside (suc k) l =
+    rw (← add-one k, row-left w p k own p n own (partner-found w p k own p own h h k n l inside refl) (omega arith), length-append, own-left w p own n h inside k (omega arith)) refl
 
 -- the rows that a semi-join leaves are as many as the own column's words that are values of the partners
 pub rows-left : {words : List ℕ} {base stride m : ℕ} {rows : List Row} (own : ℕ) (w : List ℕ) (q n other : ℕ) → SameValues words base stride m (columnOf own) rows
