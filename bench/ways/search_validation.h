@@ -47,34 +47,30 @@ static bool is_gapless(struct column column) {
     return true;
 }
 
-/* The values of a column: the lowest, the highest, and whether each number between them is a value too; of none it is empty. */
+/* The values of a column: the lowest, the highest, and whether each number between them is known to be a value too; of none it is empty. */
 struct range { uint32_t lowest, highest; bool whole; };
 
-static struct range range_of(struct column column) {
-    if (column.n == 0) return (struct range){1, 0, false};
-    return (struct range){column.words[0], column.words[column.stride * (column.n - 1)], is_gapless(column)};
-}
-
-/* Of the objects of a table, in no order. */
-static struct range object_range(const uint32_t *rows, size_t n) {
-    if (n == 0) return (struct range){1, 0, false};
-    struct range range = {rows[1], rows[1], false};
+/* Of the subjects of a table, which ascend, and of its objects, in no order: in one walk that no row ends. */
+static void column_ranges(const uint32_t *rows, size_t n, struct range *ranges) {
+    ranges[0] = ranges[1] = (struct range){1, 0, false};
+    if (n == 0) return;
+    uint32_t last = rows[0], whole = 1, lowest = rows[1], highest = rows[1];
     for (size_t i = 1; i < n; i++) {
-        const uint32_t value = rows[2 * i + 1];
-        if (value < range.lowest) range.lowest = value;
-        if (range.highest < value) range.highest = value;
+        const uint32_t subject = rows[2 * i], object = rows[2 * i + 1];
+        if (subject - last > 1) whole = 0;
+        last = subject;
+        if (object < lowest) lowest = object;
+        if (highest < object) highest = object;
     }
-    return range;
+    ranges[0] = (struct range){rows[0], last, whole == 1};
+    ranges[1] = (struct range){lowest, highest, false};
 }
 
 /* What all semi-joins are checked by: the range of each column, and the objects that some table's subjects reach, in ascending order. */
 struct sorted { struct range ranges[2 * MOST_PREDICATES]; uint32_t objects[MOST_ROWS]; };
 
 static void collect_statistics(const uint32_t *store, size_t count, struct sorted *sorted) {
-    for (size_t i = 0; i < count; i++) {
-        sorted->ranges[2 * i] = range_of(column_of(store, sorted->objects, count, i, 0));
-        sorted->ranges[2 * i + 1] = object_range(store + store[3 + 3 * i + 2], store[3 + 3 * i + 1]);
-    }
+    for (size_t i = 0; i < count; i++) column_ranges(store + store[3 + 3 * i + 2], store[3 + 3 * i + 1], sorted->ranges + 2 * i);
 }
 
 static bool columns_apart(const struct range *a, const struct range *b) { return a->highest < b->lowest || b->highest < a->lowest; }
@@ -126,6 +122,19 @@ static uint32_t count_common(struct column own, struct column partners, const st
     return kept;
 }
 
+/* Rows whose subject is between two numbers stand one behind another. */
+static bool compare_between(const uint32_t *rows, size_t m, const struct range *range, const uint32_t *next, const uint32_t *end) {
+    const size_t before = guessed_lower_bound(rows, 2, m, range->lowest), rest = m - before;
+    const uint32_t *first = rows + 2 * before;
+    const bool all = rest == 0 || first[2 * rest - 2] <= range->highest;
+    const size_t count = all ? rest : guessed_lower_bound(first, 2, rest, range->highest + 1);
+    bool same = true;
+    if (next + 2 * count != end) return false;
+    for (size_t i = 0; i < 2 * count; i++)
+        if (next[i] != first[i]) same = false;
+    return same;
+}
+
 /* Subjects ascend and are walked, for objects each partner is searched. */
 static bool compare_partnered(const uint32_t *rows, size_t m, size_t own, struct column partners, const struct filter *filter, const uint32_t *next,
                               const uint32_t *end) {
@@ -144,6 +153,7 @@ static bool compare_partnered(const uint32_t *rows, size_t m, size_t own, struct
 static uint32_t count_partnered(struct column own, struct column partners, const uint32_t *values, const struct range *a, const struct range *b) {
     struct filter filter;
     if (b->whole && b->lowest <= a->lowest && a->highest <= b->highest) return (uint32_t)own.n;
+    if (a == b) return (uint32_t)own.n; /* each row is its own partner */
     insert_values(&filter, values, partners.n, b);
     return count_common(own, partners, &filter);
 }
@@ -161,6 +171,7 @@ static size_t semi_join_end(const uint32_t *store, const struct sorted *sorted, 
     if (is_stored(store[1], entry[0], (uint32_t)m)) {
         struct filter filter;
         if (entry[1] != here || end > used) return 0;
+        if (own == 0 && b->whole) return compare_between(rows, m, b, store + here, store + end) ? end : 0;
         insert_values(&filter, values, partners.n, b);
         return compare_partnered(rows, m, own, partners, &filter, store + here, store + end) ? end : 0;
     }
