@@ -1,13 +1,4 @@
-/* The best C: the table of a triple pattern, and none, by the entries of each kind. Included by plain.c. */
-
-/* The entries of the semi-joins of one triple pattern's table against another's, one for each kind. */
-static const uint32_t *entries_of(const uint32_t *store, const struct triple *own, const struct triple *other) {
-    return store + 3 + 3 * store[0] + 2 * KINDS * (own->table * store[0] + other->table);
-}
-
-static bool kind_qualifies(const struct triple *own, const struct triple *other, size_t k) {
-    return same_variable(own->at[own_column[k]], other->at[partner_column[k]]) && own != other;
-}
+/* The best C: the table of a triple pattern by the entries of each kind. Included by plain.c. */
 
 /* On a tie the lowest choice stays: VP first, then lowest j, then lowest k. */
 static void choose_table(const uint32_t *store, const struct pattern *pattern, size_t i, struct candidate *candidate) {
@@ -22,15 +13,4 @@ static void choose_table(const uint32_t *store, const struct pattern *pattern, s
                 candidate->rows = entry[2 * k];
             }
     }
-}
-
-static bool none_by_counts(const uint32_t *store, const struct pattern *pattern) {
-    const struct triple *const end = pattern->triples + pattern->count;
-    for (const struct triple *own = pattern->triples; own != end; own++) {
-        if (store[3 + 3 * own->table + 1] == 0) return true;
-        for (const struct triple *other = pattern->triples; other != end; other++)
-            for (size_t k = 0; k < KINDS; k++)
-                if (kind_qualifies(own, other, k) && entries_of(store, own, other)[2 * k] == 0) return true;
-    }
-    return false;
 }

@@ -1,4 +1,4 @@
-/* As the engine is: the table of a triple pattern, and none, choice by choice. Included by plain.c. */
+/* As the engine is: the table of a triple pattern, choice by choice. Included by plain.c. */
 
 /* On a tie the lowest choice stays: VP first, then lowest j, then lowest k. */
 static void choose_table(const uint32_t *store, const struct pattern *pattern, size_t i, struct candidate *candidate) {
@@ -9,11 +9,4 @@ static void choose_table(const uint32_t *store, const struct pattern *pattern, s
         if (may_choose(store, pattern, i, choice) && rows < candidate->rows)
             *candidate = (struct candidate){choice, rows, terms, false, false};
     }
-}
-
-static bool none_by_counts(const uint32_t *store, const struct pattern *pattern) {
-    for (size_t i = 0; i < pattern->count; i++)
-        for (size_t choice = 0; choice <= KINDS * pattern->count; choice++)
-            if ((choice == 0 || qualifies(pattern, i, choice)) && table_of(store, pattern, i, choice)[0] == 0) return true;
-    return false;
 }
