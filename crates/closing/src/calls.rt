@@ -117,7 +117,7 @@ pub fn whether(store: &[u32], pattern: &[u8], plan: &[u8]) -> Answer
     if asked.empty {
         return Answer::No;
     }
-    if plan_has_solution(store, &mut steps, asked.count) {
+    if plan_has_solution(store, &mut steps, asked.count, asked.width) {
         Answer::Yes
     } else {
         Answer::No

@@ -4,3 +4,4 @@ pub mod decider;
 pub mod physical_plan;
 pub mod preparing;
 pub mod runner;
+pub mod whole_table;

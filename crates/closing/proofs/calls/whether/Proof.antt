@@ -45,7 +45,8 @@ plan-has-solution-requires c κs =
     let g = proper .before in
     let check = accepted g in
     let given = steps-given _ _ _ _ (check .before .checked .ensures) (check .if1 .left) _ (g .prepare .result) (g .prepare .ensures) (proper .if2 .left) in
-    (_, given .1 (some .if3 .left) .0)
+    let (planned, wide) = given .1 (some .if3 .left) in
+    (_, planned, wide)
 
 returns-4 : tie.Need-returns-4
 returns-4 c =
