@@ -164,8 +164,8 @@ static size_t semi_join_end(const uint32_t *store, const struct sorted *sorted, 
     const uint32_t *entry = store + 3 + 3 * count + 2 * ((p * count + q) * KINDS + k), *rows = store + store[3 + 3 * p + 2];
     const size_t m = store[3 + 3 * p + 1], end = here + 2 * (size_t)entry[0], own = own_column[k], other = partner_column[k];
     const struct range *a = &sorted->ranges[2 * p + own], *b = &sorted->ranges[2 * q + other];
-    if (entry[0] > m) return 0;
     if (columns_apart(a, b)) return entry[0] == 0 && entry[1] == 0 ? here : 0;
+    if (entry[0] > m) return 0;
     const struct column partners = column_of(store, sorted->objects, count, q, other);
     const uint32_t *values = store + store[3 + 3 * q + 2] + other;
     if (is_stored(store[1], entry[0], (uint32_t)m)) {

@@ -77,9 +77,6 @@ fn semi_join_end(
     let entry = semi_join_entry(w, o.entry);
     let left = entry.rows;
     let start = entry.start;
-    if o.rows < left {
-        return Extent::Invalid;
-    }
     let a = range_at(p, o.own);
     let b = range_at(q, o.other);
     if columns_apart(ranges, a, b) {
@@ -88,6 +85,9 @@ fn semi_join_end(
             return Extent::Invalid;
         }
         return Extent::Ends(here);
+    }
+    if o.rows < left {
+        return Extent::Invalid;
     }
     if is_stored(t, left, o.rows) {
         return stored_end(w, objects, ranges, first, b, o, start, left, here, used);

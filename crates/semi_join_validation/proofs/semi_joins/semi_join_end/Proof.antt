@@ -78,7 +78,7 @@ module _ (e : tie.After-semi-join-entry) where
 -- what is known once the columns are compared
 module _ (c : tie.After-columns-apart) where
   abbrev read : tie.After-semi-join-entry
-  read = c .before .before .before .before .before
+  read = c .before .before .before
 
   abbrev operands : tie.After-operands-of
   operands = read .before
@@ -118,10 +118,10 @@ module _ (c : tie.After-columns-apart) where
   )
 
 -- whether the rows would be stored, by the rows that the semi-join is of
-asked : (c : tie.After-is-stored) → let e = read (c .before .before) in
+asked : (c : tie.After-is-stored) → let e = read (c .before .before .before .before) in
     isStored (begun e .args .t) (getD (begun e .args .w .now) (entryAt (begun e)) 0) (length (semiJoinOf (begun e) .full)) ≡ c .is-stored .result
 asked c =
-    let e = read (c .before .before) in
+    let e = read (c .before .before .before .before) in
     sym (c .is-stored .ensures ∙ ap₂ (isStored (begun e .args .t)) (left-read e) (e .before .operands-of .ensures .0 .full))
 
 operands-of-requires : tie.Need-operands-of-requires
@@ -130,56 +130,56 @@ operands-of-requires c κs = search needs
 semi-join-entry-requires : tie.Need-semi-join-entry-requires
 semi-join-entry-requires c κs = omega (arith, entry-place c, among (start c), entries-inside (start c .pre .0 .0))
 
-returns : tie.Need-returns
-returns c =
-    let e = c .before .before in
-    let s = begun e in
-    ends-wrong _ _ _ _ _ _ (λ j. omega (arith, j .count, left-fewer (s .pre .0 .0) (place s) (among s), e .before .operands-of .ensures .0 .full, left-read e, c .if1 .taken))
-
 range-at-requires : tie.Need-range-at-requires
 range-at-requires c κs =
-    let o = c .before .before .before in
+    let o = c .before in
     (few (start o) .0, own-column o .0)
 
 range-at-requires-2 : tie.Need-range-at-requires-2
 range-at-requires-2 c κs =
-    let o = c .before .before .before .before in
+    let o = c .before .before in
     (few (start o) .1, partner-column o .0)
 
 columns-apart-requires : tie.Need-columns-apart-requires
 columns-apart-requires c κs =
-    let o = c .before .before .before .before .before in
+    let o = c .before .before .before in
     let small = few (start o) in
     (omega (arith, c .before .range-at .ensures, own-column o .0), omega (arith, c .range-at2 .ensures, partner-column o .0))
 
-returns-2 : tie.Need-returns-2
-returns-2 c =
+returns : tie.Need-returns
+returns c =
     let test = c .before in
     let e = read (test .before) in
-    let empty = none (test .before) (test .if2 .taken) in
+    let empty = none (test .before) (test .if1 .taken) in
     ends-wrong _ _ _ _ _ _
     (λ j.
     let count = j .count ∙ empty in
-    ⊎-elim (λ w. w .taken (left-read e ∙ count)) (λ w. eqb-false _ _ (not-true _ (w .1 .taken)) (start-read e ∙ not-stored _ _ _ _ _ _ (none-stored _ _ _ count) j)) (c .if3 .came))
+    ⊎-elim (λ w. w .taken (left-read e ∙ count)) (λ w. eqb-false _ _ (not-true _ (w .1 .taken)) (start-read e ∙ not-stored _ _ _ _ _ _ (none-stored _ _ _ count) j)) (c .if2 .came))
+
+returns-2 : tie.Need-returns-2
+returns-2 c =
+    let test = c .before .before in
+    let e = read (test .before) in
+    let empty = none (test .before) (test .if1 .taken) in
+    let count = sym (left-read e) ∙ c .before .if2 .left in
+    ends-not-stored _ _ _ _ _ _ (none-stored _ _ _ count) (count ∙ sym empty) (sym (start-read e) ∙ eqb-true _ _ (not-false _ (c .if3 .left))) (begun e .pre .0 .5)
 
 returns-3 : tie.Need-returns-3
 returns-3 c =
-    let test = c .before .before in
-    let e = read (test .before) in
-    let empty = none (test .before) (test .if2 .taken) in
-    let count = sym (left-read e) ∙ c .before .if3 .left in
-    ends-not-stored _ _ _ _ _ _ (none-stored _ _ _ count) (count ∙ sym empty) (sym (start-read e) ∙ eqb-true _ _ (not-false _ (c .if4 .left))) (begun e .pre .0 .5)
+    let e = read (c .before .before .before) in
+    let s = begun e in
+    ends-wrong _ _ _ _ _ _ (λ j. omega (arith, j .count, left-fewer (s .pre .0 .0) (place s) (among s), e .before .operands-of .ensures .0 .full, left-read e, c .if4 .taken))
 
 is-stored-requires : tie.Need-is-stored-requires
 is-stored-requires c κs =
-    let e = read (c .before) in
+    let e = read (c .before .before .before) in
     let s = begun e in
     let small = counted-of (s .pre .0 .0) (place s) (among s) refl (e .before .operands-of .ensures .0 .full) .full-few in
-    (s .pre .0 .4, omega (arith, small, c .before .before .before .before .if1 .left), small)
+    (s .pre .0 .4, omega (arith, small, c .if4 .left), small)
 
 stored-end-requires : tie.Need-stored-end-requires
 stored-end-requires c κs =
-    let apart-not = c .before .before in
+    let apart-not = c .before .before .before .before in
     let after = apart-not .before in
     let o = operands after in
     let s = start o in (
@@ -187,9 +187,9 @@ stored-end-requires c κs =
         record {
           rows = rows-searchable (s .pre .1 .0) (s .pre .1 .1) (s .pre .0 .1) (s .pre .0 .2) (s .pre .0 .3) _ (o .operands-of .ensures .1) (own-column o .0) (partner-column o .0);
           own-column = own-column o .0;
-          partners = partner-side after (apart-not .if2 .left);
+          partners = partner-side after (apart-not .if1 .left);
         },
-        omega (arith, after .before .before .before .if1 .left),
+        omega (arith, c .before .before .if4 .left),
         s .pre .0 .5,
         s .pre .0 .6,
       ),
@@ -199,19 +199,19 @@ stored-end-requires c κs =
 returns-4 : tie.Need-returns-4
 returns-4 c =
     let test = c .before in
-    let e = read (test .before .before .before) in
+    let e = read (test .before .before .before .before .before) in
     c .stored-end .ensures
     ∙ stored-same _ _ _ _ _ _ (e .before .operands-of .ensures .0 .left) (start-read e) (left-read e)
     ∙ ends-stored _ _ _ _ _ _ (asked (test .before) ∙ test .if5 .taken) (begun e .pre .0 .6)
 
 count-partnered-requires : tie.Need-count-partnered-requires
 count-partnered-requires c κs =
-    let apart-not = c .before .before .before in
+    let apart-not = c .before .before .before .before .before in
     let after = apart-not .before in
     let o = operands after in
     let s = start o in
     let small = few s in (
-      (own-side after (apart-not .if2 .left), partner-side after (apart-not .if2 .left)),
+      (own-side after (apart-not .if1 .left), partner-side after (apart-not .if1 .left)),
       (
         (
           omega (arith, after .before .before .range-at .ensures, own-column o .0),
@@ -225,7 +225,7 @@ count-partnered-requires c κs =
 returns-5 : tie.Need-returns-5
 returns-5 c =
     let test = c .before in
-    let e = read (test .before .before .before) in
+    let e = read (test .before .before .before .before .before) in
     ends-wrong _ _ _ _ _ _
     (λ j.
     ⊎-elim
@@ -236,7 +236,7 @@ returns-5 c =
 returns-6 : tie.Need-returns-6
 returns-6 c =
     let test = c .before .before .before in
-    let e = read (test .before .before .before) in
+    let e = read (test .before .before .before .before .before) in
     let same = eqb-true _ _ (not-false _ (c .if7 .left)) in
     ends-not-stored _ _ _ _ _ _ (asked (test .before) ∙ test .if5 .left) (sym (left-read e) ∙ sym same ∙ counted (e .before) (c .before .count-partnered .ensures))
     (sym (start-read e) ∙ c .before .before .if6 .left) (begun e .pre .0 .5)
@@ -247,10 +247,10 @@ semi-join-end-spec =
     (tie.spec
     operands-of-requires
     semi-join-entry-requires
-    returns
     range-at-requires
     range-at-requires-2
     columns-apart-requires
+    returns
     returns-2
     returns-3
     is-stored-requires
