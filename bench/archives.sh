@@ -30,3 +30,16 @@ for part in measure shops peer; do
   gcc $warnings -O2 -I include -I bench -I tests/c -c -o "$out/$part.o" bench/$part.c
   objects="$objects $out/$part.o"
 done
+
+# layouts MODE: the lines of `measure MODE`, eight times. Where a short loop happens to lie moves a call by a tenth and more, in one archive and
+# not in the other; so the two are linked at each offset of sixteen bytes in a cache line and in both orders, and of the times of a call the
+# least is to be taken: noise does not make it less.
+layouts() {
+  for offset in 16 32 48 64; do
+    echo "__asm__(\".text; .skip $offset\");" | gcc -x c -c -o "$out/offset.o" -
+    for archives in "$before $archive" "$archive $before"; do
+      gcc -o "$out/measure_laid" $objects "$out/offset.o" $archives -lsqlite3
+      "$out/measure_laid" "$1"
+    done
+  done
+}

@@ -5,21 +5,13 @@ FILE may have several lines of a call; of each archive the least time counts. Th
 """
 import sys
 
-from report import BEFORE, ENGINE, Line, bounds, table, time_text
-
-
-def least_times(lines):
-    """For each call, site and check the least time of this archive and that of before."""
-    times = {}
-    for line in map(Line, lines):
-        known = times.setdefault((line.call, line.site, line.check), [])
-        known.append((line.least(ENGINE), line.least(BEFORE)))
-    return {key: tuple(map(min, zip(*known))) for key, known in times.items()}
+from report import BEFORE, ENGINE, Line, bounds, least_of, table, time_text
 
 
 def main(path, limit):
     with open(path) as file:
-        times = least_times(text.rstrip('\n') for text in file)
+        measured = least_of(Line(text.rstrip('\n')) for text in file)
+    times = {(line.call, line.site, line.check): (line.least(ENGINE), line.least(BEFORE)) for line in measured}
     ratios = {key: ours / before for key, (ours, before) in times.items()}
     ascending = sorted(ratios, key=ratios.get)
     rows = [(*key, *map(time_text, times[key]), '%.3f' % ratios[key]) for key in ascending]

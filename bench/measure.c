@@ -3,7 +3,8 @@
  *   call, site, rows of the site, check, triple patterns, rows of the answer (-1 for none by refusal 21; of whether 1 for yes, 0 for no), then
  *   for each engine (ours, plain C by the same algorithm, the archive of before, plain C at its best, SQLite, SQLite with its check) the
  *   median, the two quartiles and the least in nanoseconds; 0 where an engine has no such call or is not timed.
- * `measure --before` times two engines only, ours and the archive of before; a call that this has not is left out.
+ * `measure --before` times two engines only, ours and the archive of before; a call that this has not is left out. `measure --best` times
+ * ours and plain C at its best, checks only.
  * `measure --inputs` prints the sites and the checks in hexadecimal and times nothing.
  * All engines run in one process; their repeats, and those of all calls of a check, are interleaved, so that what slows the machine slows
  * them alike. */
@@ -31,7 +32,7 @@ static size_t plan_bytes;
 static uint64_t answer[4];
 static const struct named_file *check;
 static struct peer *peer;
-static int before_alone;
+static int beside = -1; /* the only engine that is timed beside ours, if there is one */
 
 /* ---- what is timed */
 
@@ -111,7 +112,7 @@ struct line {
 enum { MOST_LINES = 3 };
 
 static int is_timed(const struct line *line, int engine) {
-    return line->engine[engine] && (!before_alone || engine == ENGINE || engine == BEFORE);
+    return line->engine[engine] && (beside < 0 || engine == ENGINE || engine == beside);
 }
 
 static double time_of(call *f, uint32_t repeats) {
@@ -199,7 +200,9 @@ static void measure_check(void) {
         {"run", found, {closing_runs, search_runs, before_runs, best_runs, peer_ask, peer_ask_checked}},
         {"whether", decided(found), {closing_decides, search_decides, before, best_decides, peer_decides, peer_decides_checked}},
     };
-    measure_lines(lines, before_alone && !before ? MOST_LINES - 1 : MOST_LINES);
+    measure_lines(lines, beside == BEFORE && !before ? MOST_LINES - 1 : MOST_LINES);
+    if (beside == BEST)
+        return;
     for (size_t n = 0; n < plan_bytes; n += 2)
         plan[n + 1] = 0;
     if (memcmp(plan, own, sizeof own) != 0)
@@ -222,7 +225,7 @@ static void print_inputs(void) {
 
 int main(int argc, char **argv) {
     const char *mode = argc > 1 ? argv[1] : "";
-    before_alone = strcmp(mode, "--before") == 0;
+    beside = strcmp(mode, "--before") == 0 ? BEFORE : strcmp(mode, "--best") == 0 ? BEST : -1;
     for (size_t k = 0; k < SITES; k++) {
         make_workload(k, &workload);
         if (strcmp(mode, "--inputs") == 0) {
@@ -232,7 +235,8 @@ int main(int argc, char **argv) {
         check = NULL;
         closing_builds();
         used = (size_t)answer[1];
-        measure_lines(&(const struct line){"build", (long)used, {closing_builds, search_builds, before_builds, NULL, peer_builds, NULL}}, 1);
+        if (beside != BEST)
+            measure_lines(&(const struct line){"build", (long)used, {closing_builds, search_builds, before_builds, NULL, peer_builds, NULL}}, 1);
         closing_builds(); /* its own store again, for the checks */
         peer = peer_load(workload.site.file.byte, workload.site.file.size);
         for (size_t c = 0; c < workload.checks; c++) {

@@ -4,10 +4,12 @@
 FOLDER holds what was measured; COMMIT is that of the archive of before.
 """
 from bisect import bisect_left, bisect_right
+import glob
 import math
 from operator import le, lt
 import os
 import platform
+import re
 import sys
 
 HERE = os.path.dirname(os.path.abspath(__file__))
@@ -44,6 +46,15 @@ class Line:
     def ratio(self, engine):
         """The engine's time over another's."""
         return self.median(ENGINE) / self.median(engine) if self.median(engine) else None
+
+
+def least_of(measured):
+    """A line for each call, site and check: of several lines of one the least times count."""
+    kept = {}
+    for line in measured:
+        known = kept.setdefault((line.call, line.site, line.check), line)
+        known.times = [tuple(map(min, zip(*times))) for times in zip(known.times, line.times)]
+    return list(kept.values())
 
 
 def inputs(folder):
@@ -215,13 +226,15 @@ def furthest(ratio, within, limit, asked, time):
     """The greatest ratio, on which input, and how many are outside the limit."""
     ratios = [(ratio(line, time), line) for line in asked]
     greatest, line = max(ratios, key=lambda pair: pair[0])
-    return '%.3f' % greatest, '%s, %s' % (line.site, line.check), sum(not within(value, limit) for value, _ in ratios)
+    return '%.4g' % greatest, '%s, %s' % (line.site, line.check), sum(not within(value, limit) for value, _ in ratios)
 
 
-def limits_table(measured):
-    rows = [(what, '%s %g' % ('below' if within is lt else 'at most', limit), len(asked)) + furthest(ratio, within, limit, asked, Line.median)
-            + furthest(ratio, within, limit, asked, Line.least) for what, ratio, within, limit, asked in whether_limits(measured)]
-    return table(('what', 'limit', 'inputs', 'furthest, by medians', 'on', 'outside', 'by least times', 'on', 'outside'), rows)
+def limits_table(measured, laid):
+    rows = []
+    for once, least in zip(whether_limits(measured), whether_limits(laid)):
+        what, _, within, limit, asked = once
+        rows.append((what, '%s %g' % ('below' if within is lt else 'at most', limit), len(asked)) + furthest(*least[1:], Line.least) + furthest(*once[1:], Line.median))
+    return table(('what', 'limit', 'inputs', 'furthest, least of eight layouts', 'on', 'outside', 'medians of one', 'on', 'outside'), rows)
 
 
 def reduced_table(measured):
@@ -254,20 +267,40 @@ def best_bounds(what, measured):
     return bounds(what, [line.ratio(BEST) for line in measured if line.call not in ('build', 'whether')])
 
 
-def whether_text(everything, measured):
+def instructions(folder):
+    """Of each call, site and check the instructions of one call, from the dumps of callgrind."""
+    counts = {}
+    for path in glob.glob(os.path.join(folder, 'counted', 'call.*')):
+        with open(path) as file:
+            text = file.read()
+        counts[tuple(re.search('^desc: Trigger: Client Request: (.*)$', text, re.M)[1].split('\t'))] = int(re.search('^totals: (.*)$', text, re.M)[1])
+    return counts
+
+
+def instructions_text(measured, counts):
+    """Whether beside a run, where there are rows: what no layout and no noise moves."""
+    def counted(line, _):
+        return counts[line.call, line.site, line.check]
+
+    what, ratio, within, limit, asked = whether_limits(measured)[0]
+    greatest, where, outside = furthest(ratio, within, limit, asked, counted)
+    return ['In instructions, which neither layout nor noise moves (callgrind, one call each), %s: at most %s (%s), %d of %d outside.' % (what, greatest, where, outside, len(asked))]
+
+
+def whether_text(everything, measured, laid, counts):
     """The section of the call that only tells whether there is a row."""
     text = ['## Whether', '', 'Beside run and plan of the same check, whose repeats are interleaved with its own. SQLite is asked for one row, in no order.', '']
     text += whether_table(measured) + ['', '## The limits of S-7', '']
-    text += ['Over all sites, those with gaps too: the furthest that was measured, and how many inputs are outside the limit.', '']
-    return text + limits_table(everything)
+    text += ['Over all sites, those with gaps too: the furthest that was measured, and how many inputs are outside the limit. Where a short loop lies',
+             'moves a call by a tenth and more, so the calls are linked eight ways and the least time of each counts (`bench/archives.sh`); beside', 'that what the tables above have.', '']
+    return text + limits_table(everything, laid) + [''] + instructions_text(everything, counts)
 
 
-def sizes_table(folder):
+def sizes_table(folder, counts):
     calls = ('build', 'plan', 'run', 'whether')
-    rows = []
-    for what, name in (('stack of a call, bytes', 'stack.txt'), ('instructions on the worked shop', 'instructions.txt')):
-        numbers = dict(line.split() for line in lines(folder, name))
-        rows.append((what,) + tuple('{:,}'.format(int(numbers[call])) for call in calls))
+    stack = dict(line.split() for line in lines(folder, 'stack.txt'))
+    worked = {call: count for (call, site, _), count in counts.items() if site == 'worked shop'}
+    rows = [(what,) + tuple('{:,}'.format(int(numbers[call])) for call in calls) for what, numbers in (('stack of a call, bytes', stack), ('instructions on the worked shop', worked))]
     return table(('what',) + calls, rows)
 
 
@@ -276,6 +309,7 @@ def results(folder, commit):
     measured, further = [line for line in everything if not has_gaps(line)], [line for line in everything if has_gaps(line)]
     sites = inputs(folder)
     code = lines(folder, 'size.txt')[-1].split()
+    counts = instructions(folder)
     worst = max(line.spread(engine) for line in everything for engine in range(6))
     text = ['# What a closing check costs', '', 'Written by `bench/run`; medians of 21 interleaved repeats in one process, on %s. Compare ratios of' % platform.machine(),
             'one run, not times of two. The widest distance between quartiles was %.0f %% of a median.' % (100 * worst), '',
@@ -285,11 +319,11 @@ def results(folder, commit):
             bounds('Run over SQLite with quick_check', [line.ratio(CHECKED) for line in measured if line.call == 'run']), '',
             '![time of a run by rows of the site](plot.svg)', '', '## Build', '']
     text += build_table(measured, sites) + ['', '## Plan', ''] + plan_table(measured) + ['', '## Run', ''] + run_table(measured, sites)
-    text += [''] + whether_text(everything, measured)
+    text += [''] + whether_text(everything, measured, least_of(map(Line, lines(folder, 'layouts.txt'))), counts)
     text += ['', '## Reduced tables', ''] + reduced_table(measured) + ['', '## How cost grows with rows', '', 'The exponent of time in rows, over shops of 16 to 1,024 rows.', '']
     text += growth_table(measured) + ['', '## Columns with gaps', '', 'Further sites: the same shops with their terms numbered by first appearance, as `tools/site_text.py`',
                                       'numbers names, or scattered over all numbers. ' + best_bounds('Engine over best C, plan and run', further), '']
-    text += plan_table(further) + [''] + run_table(further, sites) + [''] + whether_table(further) + ['', '## Sizes', ''] + sizes_table(folder)
+    text += plan_table(further) + [''] + run_table(further, sites) + [''] + whether_table(further) + ['', '## Sizes', ''] + sizes_table(folder, counts)
     text += ['', 'Code of the archive: {:,} bytes.'.format(int(code[0])), '', '## Agreement', '', '. '.join(lines(folder, 'agree.txt')) + '.', '']
     with open(os.path.join(HERE, 'NOTES.md')) as notes:
         text.append(notes.read())

@@ -1,5 +1,5 @@
-/* Large sites, where question 10 marks, walks and searches: up to 1,024 rows in up to 16 tables, terms at random out of few or many, and in
- * each store one word after another damaged. The build is compared with the reference word for word, and of each store whether a plan is
+/* Large sites, where question 10 marks, walks, searches and goes by ranges: up to 1,024 rows in up to 16 tables, terms at random out of few
+ * or many, of every other site in ranges that overlap, and in each store one word after another damaged. The build is compared with the reference word for word, and of each store whether a plan is
  * made, which one, or with which number it is refused, and the same of whether there is a solution. Seeded: every run is the same. */
 #include "closing.h"
 #include "files.h"
@@ -9,7 +9,7 @@
 #include <stdlib.h>
 #include <string.h>
 
-enum { SITES = 120, DAMAGES = 6, MOST_ROWS = 1024, MOST_PREDICATES = 16 };
+enum { SITES = 240, DAMAGES = 6, MOST_ROWS = 1024, MOST_PREDICATES = 16 };
 
 static struct file site;
 static struct row rows[MOST_PREDICATES][MOST_ROWS];
@@ -22,22 +22,23 @@ static uint32_t random_below(uint32_t limit) {
     return (uint32_t)(state >> 33) % limit;
 }
 
-/* So many rows at random, ascending, each once. */
-static size_t make_rows(struct row *row, size_t most, uint32_t terms) {
+/* So many rows at random, of so many terms from `first` on, ascending, each once. */
+static size_t make_rows(struct row *row, size_t most, uint32_t first, uint32_t terms) {
     size_t kept = 0;
     for (size_t i = 0; i < most; i++)
-        row[i] = (struct row){random_below(terms), random_below(terms)};
+        row[i] = (struct row){first + random_below(terms), first + random_below(terms)};
     qsort(row, most, sizeof *row, compare_rows);
     for (size_t i = 0; i < most; i++)
         if (kept == 0 || compare_rows(&row[kept - 1], &row[i]) != 0) row[kept++] = row[i];
     return kept;
 }
 
-static void make_site(uint32_t predicates, uint32_t terms) {
+/* Of each table the terms from some place on, `own` of them. */
+static void make_site(uint32_t predicates, uint32_t terms, uint32_t own) {
     site.size = 0;
     put_number(&site, predicates);
     for (uint32_t p = 0; p < predicates; p++) {
-        count[p] = make_rows(rows[p], random_below(MOST_ROWS / predicates + 1), terms);
+        count[p] = make_rows(rows[p], random_below(MOST_ROWS / predicates + 1), random_below(terms - own + 1), own);
         put_number(&site, p + 1);
         put_number(&site, (uint32_t)count[p]);
     }
@@ -73,7 +74,7 @@ int main(void) {
     long made = 0, refused = 0, yes = 0, no = 0;
     for (uint32_t n = 0; n < SITES; n++) {
         const uint32_t predicates = 1 + random_below(MOST_PREDICATES), t = n % 3 == 0 ? random_below(1001) : 1000;
-        make_site(predicates, terms[n % 6]);
+        make_site(predicates, terms[n % 6], n / 6 % 2 == 0 ? terms[n % 6] : terms[n % 6] / 2);
         if (closing_build(t, site.byte, site.size, store, CLOSING_STORE_WORDS, answer) != 0) return 1;
         if (reference_build(t, site.byte, site.size, expected, CLOSING_STORE_WORDS, wanted) != 0) return 1;
         const size_t used = (size_t)answer[1];
