@@ -99,9 +99,15 @@ pub fn collect_statistics(w: &[u32], count: usize, ranges: &mut [u32; 96])
 {
     for i in 0..count {
         let table = table_entry(w, i);
-        let c = column_ranges(w, table.start, table.rows);
-        put_range(ranges, range_at(i, 0), c.first, c.last, c.whole);
-        put_range(ranges, range_at(i, 1), c.lowest, c.highest, 0);
+        let columns = column_ranges(w, table.start, table.rows);
+        put_range(
+            ranges,
+            range_at(i, 0),
+            columns.first,
+            columns.last,
+            columns.whole,
+        );
+        put_range(ranges, range_at(i, 1), columns.lowest, columns.highest, 0);
     }
 }
 
