@@ -229,9 +229,24 @@ def furthest(ratio, within, limit, asked, time):
     return '%.4g' % greatest, '%s, %s' % (line.site, line.check), sum(not within(value, limit) for value, _ in ratios)
 
 
-def limits_table(measured, laid):
-    rows = []
-    for once, least in zip(whether_limits(measured), whether_limits(laid)):
+def instructions(folder):
+    """Of each call, site and check the instructions of one call, from the dumps of callgrind."""
+    counts = {}
+    for path in glob.glob(os.path.join(folder, 'counted', 'call.*')):
+        with open(path) as file:
+            text = file.read()
+        counts[tuple(re.search('^desc: Trigger: Client Request: (.*)$', text, re.M)[1].split('\t'))] = int(re.search('^totals: (.*)$', text, re.M)[1])
+    return counts
+
+
+def limits_table(measured, laid, counts):
+    def counted(line, _):
+        return counts[line.call, line.site, line.check]
+
+    limits = whether_limits(measured)
+    what, *ahead = limits[0]
+    rows = [(what + ', in instructions', 'below 1', len(ahead[-1])) + furthest(*ahead, counted) + ('', '', '')]
+    for once, least in zip(limits, whether_limits(laid)):
         what, _, within, limit, asked = once
         rows.append((what, '%s %g' % ('below' if within is lt else 'at most', limit), len(asked)) + furthest(*least[1:], Line.least) + furthest(*once[1:], Line.median))
     return table(('what', 'limit', 'inputs', 'furthest, least of eight layouts', 'on', 'outside', 'medians of one', 'on', 'outside'), rows)
@@ -267,33 +282,15 @@ def best_bounds(what, measured):
     return bounds(what, [line.ratio(BEST) for line in measured if line.call not in ('build', 'whether')])
 
 
-def instructions(folder):
-    """Of each call, site and check the instructions of one call, from the dumps of callgrind."""
-    counts = {}
-    for path in glob.glob(os.path.join(folder, 'counted', 'call.*')):
-        with open(path) as file:
-            text = file.read()
-        counts[tuple(re.search('^desc: Trigger: Client Request: (.*)$', text, re.M)[1].split('\t'))] = int(re.search('^totals: (.*)$', text, re.M)[1])
-    return counts
-
-
-def instructions_text(measured, counts):
-    """Whether beside a run, where there are rows: what no layout and no noise moves."""
-    def counted(line, _):
-        return counts[line.call, line.site, line.check]
-
-    what, ratio, within, limit, asked = whether_limits(measured)[0]
-    greatest, where, outside = furthest(ratio, within, limit, asked, counted)
-    return ['In instructions, which neither layout nor noise moves (callgrind, one call each), %s: at most %s (%s), %d of %d outside.' % (what, greatest, where, outside, len(asked))]
-
-
 def whether_text(everything, measured, laid, counts):
     """The section of the call that only tells whether there is a row."""
     text = ['## Whether', '', 'Beside run and plan of the same check, whose repeats are interleaved with its own. SQLite is asked for one row, in no order.', '']
     text += whether_table(measured) + ['', '## The limits of S-7', '']
     text += ['Over all sites, those with gaps too: the furthest that was measured, and how many inputs are outside the limit. Where a short loop lies',
-             'moves a call by a tenth and more, so the calls are linked eight ways and the least time of each counts (`bench/archives.sh`); beside', 'that what the tables above have.', '']
-    return text + limits_table(everything, laid) + [''] + instructions_text(everything, counts)
+             'moves a call by a tenth and more, so the calls are linked eight ways and the least time of each counts (`bench/archives.sh`); beside',
+             'that what the tables above have. Two calls that differ by a thousandth a time does not tell apart: where there are rows whether does all that a',
+             'run does but to make them, and which is ahead is told by the instructions of one call (callgrind).', '']
+    return text + limits_table(everything, laid, counts)
 
 
 def sizes_table(folder, counts):
