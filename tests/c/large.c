@@ -1,6 +1,7 @@
 /* Large sites, where question 10 marks, walks, searches and goes by ranges: up to 1,024 rows in up to 16 tables, terms at random out of few
- * or many, of every other site in ranges that overlap, and in each store one word after another damaged. The build is compared with the reference word for word, and of each store whether a plan is
- * made, which one, or with which number it is refused, and the same of whether there is a solution. Seeded: every run is the same. */
+ * or many, in half of the sites in ranges that overlap, and in each store one word after another damaged. The build is compared with the
+ * reference word for word, and of each store whether a plan is made, which one, or with which number it is refused, and the same of whether
+ * there is a solution. Seeded: every run is the same. */
 #include "closing.h"
 #include "files.h"
 #include "reference.h"

@@ -1,4 +1,4 @@
--- Stored rows that are compared one by one, from a place on.
+-- Stored rows that are compared: one by one, from a place on, or all whose subject is between two numbers.
 use Prim.Native.Nat.{ℕ, _+_}
 use mathlib.Core.Bool.{Bool, _&&_, not}
 use mathlib.Core.List.{List}
