@@ -40,8 +40,10 @@
 extern "C" {
 #endif
 
-/* Raised when the inputs of a call or the numbers of an answer change. */
-#define CLOSING_VERSION 2
+/* Raised when the inputs of a call, their limits or the numbers of an answer change. Since 2 there is closing_whether. Since 3 a term is at
+ * most 16,777,215 and a number has up to 4 bytes; what was accepted before, files and stores that were kept, is answered as it was (a
+ * law: Calls-Answer-As-They-Did in crates/model/proofs/Demands/Kept.antt). */
+#define CLOSING_VERSION 3
 
 /* A store of this many words holds every site at every threshold: with it closing_build never returns 9 (a law: Store-Words-Suffice
  * in crates/model/proofs/Demands/Store.antt). Most sites need far fewer; 01's shop needs 84. */
@@ -56,13 +58,13 @@ extern "C" {
 #define CLOSING_NO 6    /* no solution; 0, 0 */
 
 /* Refusals: the question that was answered no. Those of one file are asked as its bytes are read, from the front; the form of a
- * number (1 to 3 bytes, seven bits each, low group first, in shortest form) is questioned before its field.
+ * number (1 to 4 bytes, seven bits each, low group first, in shortest form) is questioned before its field.
  *
  * closing_build:
  *    1  Is T at most 1,000?
  *    2  Is each number of the site whole and in shortest form?
  *    3  Is the count of predicates at most 16?
- *    4  Is each predicate a term (at most 65,535) above the one before?
+ *    4  Is each predicate a term (at most 16,777,215) above the one before?
  *    5  Is the running total of rows at most 1,024?
  *    6  Is each subject and object a term?
  *    7  Is each row above the one before in its table?

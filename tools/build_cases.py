@@ -1,7 +1,7 @@
 """The further cases of `build`: T, the site's file, the words lent."""
 from making import BAD_FORM, faults_apart, joined
-from reference import layout, number, read_site, site_file
-from sites import G1, SHOP
+from reference import MOST_TERM, layout, number, read_site, site_file
+from sites import G1, SHOP, SPREAD
 
 # A good file as its numbers, and each single fault in it: the place of a number, and the bytes that stand there instead.
 NUMBERS = [2, 5, 2, 6, 2, 4, 2, 4, 3, 1, 1, 2, 0]
@@ -9,8 +9,8 @@ T_PLACE, END_PLACE, STORE_PLACE = -1, len(NUMBERS), len(NUMBERS) + 1
 FAULTS = (
     [(T_PLACE, b''), (END_PLACE, b'\x00'), (STORE_PLACE, b'')]
     + [(place, BAD_FORM) for place in range(len(NUMBERS))]
-    + [(0, number(17)), (1, number(65536)), (3, number(5)), (2, number(1025)), (4, number(1025))]
-    + [(place, number(65536)) for place in range(5, len(NUMBERS))]
+    + [(0, number(17)), (1, number(MOST_TERM + 1)), (3, number(5)), (2, number(1025)), (4, number(1025))]
+    + [(place, number(MOST_TERM + 1)) for place in range(5, len(NUMBERS))]
     + [(8, number(2)), (11, number(1))]
 )
 
@@ -43,7 +43,8 @@ def cases():
     yield 1000, b'\0', 3
     yield 1000, b'\0', 2
     yield 1000, site_file([(0, [])]), 16
-    yield 1000, site_file([(65535, [(0, 0), (0, 65535), (65535, 0), (65535, 65535)])]), 32
+    for greatest in (65535, 65536, MOST_TERM):
+        yield 1000, site_file([(greatest, [(0, 0), (0, greatest), (greatest, 0), (greatest, greatest)])]), 32
     yield 1000, site_file([(7, []), (8, [(1, 1)]), (9, [])]), 80
     yield 1000, site_file([(p, []) for p in range(16)]), 2000
     yield 1000, site_file([(p, []) for p in range(17)]), 2000
@@ -58,24 +59,30 @@ def cases():
     yield 0, site_file(wide), len(layout(0, wide)) + 1
     # numbers that are not whole or not in shortest form, at each kind of place
     for bad in (b'', b'\x80', b'\x81', b'\x80\x00', b'\x81\x00', b'\x80\x80', b'\x80\x80\x00', b'\x81\x80\x00', b'\x80\x80\x80',
-                b'\x80\x80\x80\x01', b'\xff\xff\xff\x7f'):
+                b'\x80\x80\x80\x00', b'\x81\x80\x80\x00', b'\x80\x80\x80\x80', b'\x80\x80\x80\x80\x01', b'\xff\xff\xff\xff\x7f'):
         yield 1000, bad, 8
         yield 1000, b'\x01' + bad, 8
         yield 1000, b'\x01\x05' + bad, 8
         yield 1000, b'\x01\x05\x01' + bad, 8
         yield 1000, b'\x01\x05\x01\x09' + bad, 8
     # a field out of its range, with good form
-    for count in (17, 127, 128, 16384, 2097151):
+    for count in (17, 127, 128, 16384, 2097151, 2097152, 2**28 - 1):
         yield 1000, number(count), 8
-    yield 1000, b'\x01' + number(65536) + b'\x00', 16
-    yield 1000, b'\x01\x05\x01' + number(65536) + b'\x01', 16
-    yield 1000, b'\x01\x05\x01\x01' + number(65536), 16
-    yield 1000, b'\x01\x05\x01' + number(65535) + number(65535), 32
+    # around the greatest term, around the greatest of 16 bits, and a number of four bytes that is above both
+    for term in (65535, 65536, 2097151, 2097152, MOST_TERM, MOST_TERM + 1, 2**28 - 1):
+        yield 1000, b'\x01' + number(term) + b'\x00', 16
+        yield 1000, b'\x01\x05\x01' + number(term) + b'\x01', 16
+        yield 1000, b'\x01\x05\x01\x01' + number(term), 16
+        yield 1000, b'\x01\x05\x01' + number(term) + number(term), 32
+    # terms that are equal in their last 16 bits, or in their last 10
+    for threshold in (1000, 400, 0):
+        yield threshold, site_file(SPREAD), 200
     yield 1000, b'\x01\x05' + number(1024), 8
     yield 1000, b'\x01\x05' + number(1025), 8
     yield 1000, b'\x02\x05' + number(1000) + b'\x06' + number(24), 8
     yield 1000, b'\x02\x05' + number(1000) + b'\x06' + number(25), 8
     yield 1000, b'\x02\x05' + number(2097151) + b'\x06\x00', 8
+    yield 1000, b'\x02\x05' + number(2**28 - 1) + b'\x06\x00', 8
     # out of order: predicates, subjects, objects; equal ones too
     for second in (4, 5, 6):
         yield 1000, site_file([(5, []), (second, [])]), 48
@@ -94,13 +101,13 @@ def cases():
     yield 1000, b'\x02\x05\x00\x05' + number(1025), 8
     yield 1000, b'\x02\x05\x00\x05\x80\x00', 8
     yield 1000, b'\x02\x05\x80\x00\x05\x00', 8
-    yield 1000, b'\x02\x05\x01\x05\x01' + number(65536), 8
-    yield 1000, b'\x02\x05\x01\x06\x01' + number(65536) + b'\x80', 8
+    yield 1000, b'\x02\x05\x01\x05\x01' + number(MOST_TERM + 1), 8
+    yield 1000, b'\x02\x05\x01\x06\x01' + number(MOST_TERM + 1) + b'\x80', 8
     yield 1000, b'\x01\x05\x02\x04\x02\x04\x02\x80\x00', 8
-    yield 1000, b'\x01\x05\x02\x04\x02\x04' + number(65536), 8
-    yield 1000, b'\x01\x05\x02\x04\x02\x03' + number(65536), 8
+    yield 1000, b'\x01\x05\x02\x04\x02\x04' + number(MOST_TERM + 1), 8
+    yield 1000, b'\x01\x05\x02\x04\x02\x03' + number(MOST_TERM + 1), 8
     yield 1000, b'\x01\x05\x02\x04\x02\x04\x02\x00', 8
-    yield 1000, b'\x01\x05\x03\x04\x02\x04\x02' + number(65536), 8
+    yield 1000, b'\x01\x05\x03\x04\x02\x04\x02' + number(MOST_TERM + 1), 8
     yield 1000, SHOP + b'\x00', 83
     yield 1000, SHOP[:-1] + b'\x28', 83
     yield 1000, SHOP, 83

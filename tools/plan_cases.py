@@ -1,6 +1,6 @@
 """The further cases of `plan`: a store's words, then what is asked over them."""
 from making import BAD_FORM, Over, faults_apart, joined, random_numbers, random_pattern
-from reference import layout, number, pattern_file, read_site
+from reference import MOST_TERM, layout, number, pattern_file, read_site
 from sites import CHECK, G1, G1_WORDS, NONE_BY_COUNTS, Q1, SHOP, SHOP_WORDS, SMALL_WORDS, STAR_OF_TERMS
 
 
@@ -34,6 +34,7 @@ def stores():
         [[0, 1000, 3], [0, 0, 3], layout(500, [(1, []), (2, [])]), layout(1000, [(p, []) for p in range(1, 17)])]
         + [layout(threshold, G1) for threshold in (0, 250, 251, 334, 500, 501, 1000)]
         + [layout(0, [(1, [(s, o) for s in range(32) for o in range(32)])])]
+        + [layout(1000, [(1, [(65536, 1)])]), layout(1000, [(1, [(MOST_TERM, MOST_TERM)])]), layout(1000, [(65536, []), (MOST_TERM, [])])]
     )
     # consistent images of no site: P 17, T 1,001, 1,025 rows, rows out of order, equal rows, terms above the greatest, predicates out of order
     bad = [
@@ -43,9 +44,12 @@ def stores():
         layout(1000, [(1, [(2, 2), (1, 1)])]),
         layout(1000, [(1, [(1, 2), (1, 1)])]),
         layout(1000, [(1, [(1, 1), (1, 1)])]),
-        layout(1000, [(1, [(65536, 1)])]),
-        layout(1000, [(1, [(1, 65536)])]),
-        layout(1000, [(65536, []), (65537, [])]),
+        layout(1000, [(1, [(MOST_TERM + 1, 1)])]),
+        layout(1000, [(1, [(1, MOST_TERM + 1)])]),
+        layout(1000, [(MOST_TERM + 1, []), (MOST_TERM + 2, [])]),
+        layout(1000, [(1, [(2**31, 1)])]),
+        layout(1000, [(1, [(1, 2**32 - 1)])]),
+        layout(1000, [(1, [(1, 2**31), (1, 2**31 + 1)])]),
         layout(1000, [(2, []), (1, [])]),
         layout(1000, [(1, []), (1, [])]),
     ]
@@ -65,7 +69,7 @@ def stores():
 # A good pattern as its numbers, and the faults that each number can have.
 NUMBERS = [2, 1, 2, 3, 3, 4, 16]
 STORE_PLACE, END_PLACE = -1, len(NUMBERS)
-WIDE_TERM, FAR_VARIABLE, NOT_NEXT = number(2 * 65536), number(2 * 8 + 1), number(2 * 5 + 1)
+WIDE_TERM, FAR_VARIABLE, NOT_NEXT = number(2 * (MOST_TERM + 1)), number(2 * 8 + 1), number(2 * 5 + 1)
 FAULTS = (
     [(STORE_PLACE, b''), (END_PLACE, b'\0'), (0, number(0)), (0, number(9))]
     + [(place, BAD_FORM) for place in range(len(NUMBERS))]
@@ -82,19 +86,19 @@ def patterns():
         yield small.plan(joined(NUMBERS, there, END_PLACE), count=len(SMALL_WORDS) - (STORE_PLACE in there))
     # N at its limits, with good form and without
     triple = bytes([1, 2, 1])
-    for count in (0, 1, 2, 7, 8, 9, 127, 128, 16384, 2097151):
+    for count in (0, 1, 2, 7, 8, 9, 127, 128, 16384, 2097151, 2097152, 2**28 - 1):
         yield small.plan(number(count) + triple * count if count < 10 else number(count))
-    for bad in (b'', b'\x80', b'\x81\x00', b'\x80\x80\x80', b'\x81\x80\x00', b'\x80\x80\x80\x01'):
+    for bad in (b'', b'\x80', b'\x81\x00', b'\x80\x80\x80', b'\x81\x80\x00', b'\x81\x80\x80\x00', b'\x80\x80\x80\x80', b'\x80\x80\x80\x80\x01'):
         yield small.plan(bad)
         yield small.plan(b'\x01' + bad)
         yield small.plan(b'\x01\x01' + bad)
         yield small.plan(b'\x01\x01\x02' + bad)
     # terms at their limit, predicates odd, even but too large, and undeclared: 14, never None
-    for value in (2 * 65535, 2 * 65536, 2097150):
+    for value in (2 * 65535, 2 * 65536, 2097150, 2097152, 2 * MOST_TERM, 2 * (MOST_TERM + 1), 2**28 - 2):
         yield small.plan(b'\x01' + number(value) + b'\x02\x01')
         yield small.plan(b'\x01\x01\x02' + number(value))
         yield small.plan(b'\x01\x01' + number(value) + b'\x03')
-    for value in (0, 1, 3, 5, 6, 15, 17, 2097151):
+    for value in (0, 1, 3, 5, 6, 15, 17, 2097151, 2 * MOST_TERM + 1, 2**28 - 1):
         yield small.plan(b'\x01\x01' + number(value) + b'\x03')
     yield small.plan(bytes([1, 1, 6]))
     # eight variables, a ninth, one named twice, and each that is not the next

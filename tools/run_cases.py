@@ -4,7 +4,7 @@ from itertools import permutations, product
 
 from making import BAD_FORM, Over, faults_apart, joined, random_numbers, random_pattern
 from reference import choices, layout, number, pattern_file, plan_file, read_pattern, read_site, site_file
-from sites import CHECK, CHECK_PLAN, G1, G1_WORDS, NONE_BY_COUNTS, Q1, SHOP, SHOP_WORDS, SMALL_WORDS, STAR_OF_TERMS
+from sites import CHECK, CHECK_PLAN, G1, G1_WORDS, NONE_BY_COUNTS, Q1, SHOP, SHOP_WORDS, SMALL_WORDS, SPREAD, SPREAD_PATH, SPREAD_STAR, STAR_OF_TERMS
 
 
 def given_plans():
@@ -19,7 +19,7 @@ def given_plans():
             yield shop.run(CHECK, steps + bytes([extra]))
     # every choice at every place
     for place in range(3):
-        for choice in list(range(12)) + [127, 128, 65536, 2097151]:
+        for choice in list(range(12)) + [127, 128, 65536, 2097151, 2097152, 2**28 - 1]:
             yield shop.run(CHECK, plan_file([(place, choice)] + [(other, 0) for other in range(3) if other != place]))
     # not stored at this T
     low = Over(layout(666, read_site(SHOP)))
@@ -39,6 +39,8 @@ def given_plans():
     faults = (
         [(len(numbers), b'\0'), (0, number(2)), (2, number(1)), (2, number(2)), (0, number(128))]
         + [(place, BAD_FORM) for place in range(4)]
+        # four bytes are a number of good form, too large for its field; five are none
+        + [(place, bad) for place in range(4) for bad in (number(2**28 - 1), b'\x80\x80\x80\x80\x01')]
         + [(place, number(choice)) for place in (1, 3) for choice in (1, 2, 4, 6, 7, 25, 200)]
     )
     for there in faults_apart(faults):
@@ -81,6 +83,7 @@ def every_plan():
         (1000, G1, (pattern_file([(1, 20, 3), (3, 20, 5)]), pattern_file([(1, 22, 3), (1, 20, 5), (5, 20, 7)]), pattern_file([(1, 20, 3), (1, 20, 3)]))),
         (600, G1, (pattern_file([(1, 20, 3), (3, 20, 5), (5, 22, 7)]), Q1)),
         (1000, [(1, [(1, 1), (1, 2), (2, 2), (3, 1)]), (2, [(1, 3), (2, 2)])], (pattern_file([(1, 2, 1), (1, 4, 3), (3, 2, 5)]),)),
+        (1000, SPREAD, (SPREAD_PATH, SPREAD_STAR)),
     ):
         over = Over(layout(threshold, site))
         yield over.held()
@@ -196,6 +199,8 @@ def chains():
         yield site, CHECK, 24
     yield site_file(G1), Q1, 4
     yield site_file(G1), Q1, 3
+    for check in (SPREAD_PATH, SPREAD_STAR):
+        yield site_file(SPREAD), check, 24
     # a store of 8,192 words does not hold every site: 9, and one that it holds
     for rows in (64, 40):
         yield site_file([(p, [(s, s + p % 2) for s in range(rows)]) for p in range(16)]), pattern_file([(2, 2, 1)]), 24

@@ -13,7 +13,7 @@ import pathlib
 import re
 import sys
 
-from reference import pattern_file, site_file
+from reference import MOST_TERM, pattern_file, site_file
 
 ANSWER = re.compile('(none)\n|refused ([1-9]|1[0-9]|2[01])\n|rows ([0-9]{1,4}) width ([0-8])\n((?:[0-9 ]*\n)*)')
 
@@ -69,7 +69,7 @@ def is_digits(word):
 
 def term_of(place, word):
     digits = word.lstrip('0') or '0'
-    need(len(digits) <= 5 and int(digits) <= 65535, place, 'a number is at most 65,535: ' + word)
+    need(len(digits) <= 8 and int(digits) <= MOST_TERM, place, 'a number is at most {:,}: '.format(MOST_TERM) + word)
     return int(digits)
 
 
@@ -97,7 +97,7 @@ class Names:
     def number_the_others(self):
         """Only once a text is read whole, since a number further down is not free."""
         taken = set(self.terms.values())
-        free = (term for term in range(1, 65536) if term not in taken)
+        free = (term for term in range(1, MOST_TERM + 1) if term not in taken)
         for word in [word for word, term in self.terms.items() if term is None]:
             self.terms[word] = next(free, None)
             need(self.terms[word], word, 'no number is left for this name')

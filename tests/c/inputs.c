@@ -22,11 +22,14 @@ static int one_in(uint32_t n) {
 
 /* ---- numbers that are not in shortest form or not whole, and other damage */
 
+/* Four bytes with their top bit set are no number, whatever stands behind them; with three, the byte behind may end one. */
 static void put_bad_number(struct file *file) {
-    static const uint8_t bad[4][3] = {{0x80, 0x00, 0x00}, {0x81, 0x80, 0x00}, {0x80, 0x80, 0x80}, {0xFF, 0xFF, 0xFF}};
-    uint32_t which = below(4);
-    for (int i = 0; i < (which == 0 ? 2 : 3); i++)
-        put_byte(file, bad[which][i]);
+    static const struct { int size; uint8_t byte[4]; } bad[] = {
+        {2, {0x80, 0x00}}, {3, {0x81, 0x80, 0x00}}, {4, {0x80, 0x80, 0x80, 0x00}}, {4, {0x80, 0x80, 0x80, 0x80}}, {4, {0xFF, 0xFF, 0xFF, 0xFF}},
+    };
+    uint32_t which = below(sizeof bad / sizeof *bad);
+    for (int i = 0; i < bad[which].size; i++)
+        put_byte(file, bad[which].byte[i]);
 }
 
 /* Cuts a file short, lengthens it, or changes a byte. */
@@ -53,9 +56,24 @@ static void damage_file(struct file *file) {
 /* What is wrong with a site that is made: nothing, or one of its fields. */
 enum fault { NO_FAULT, BAD_NUMBER, MANY_PREDICATES, PREDICATE_NOT_ABOVE, WIDE_PREDICATE, MANY_ROWS, WIDE_TERM, ROW_NOT_ABOVE, FAULTS };
 
+/* Terms are few, so that rows meet, and in some sites `stride` apart from `base` on, up to the greatest: then many are equal in their last
+ * 16 bits, or their last 10. */
 struct shape {
-    uint32_t predicates, term[17], count[17];
+    uint32_t predicates, term[17], count[17], stride, base;
 };
+
+enum { GREATEST_TERM = 16777215, MOST_TERMS = 70 };
+
+static uint32_t spread(const struct shape *shape, uint32_t t) {
+    return shape->base + shape->stride * t;
+}
+
+static void make_spread(struct shape *shape) {
+    static const uint32_t strides[] = {1, 1, 1024, 65536, 65537, 3 * 65536};
+    shape->stride = strides[below(sizeof strides / sizeof *strides)];
+    const uint32_t most = GREATEST_TERM - shape->stride * (MOST_TERMS - 1);
+    shape->base = shape->stride == 1 && one_in(2) ? 0 : one_in(3) ? most : below(most + 1);
+}
 
 static struct shape make_shape(void) {
     struct shape shape = {.predicates = one_in(40) ? 16 : one_in(25) ? 0 : 1 + below(4)};
@@ -63,25 +81,26 @@ static struct shape make_shape(void) {
     for (uint32_t i = 0; i < shape.predicates; i++) {
         shape.term[i] = next;
         shape.count[i] = one_in(12) ? 0 : 1 + below(14);
-        next += 1 + (one_in(5) ? below(9000) / (shape.predicates + 1) : below(2));
+        next += one_in(12) ? 65536 * (1 + below(9)) : 1 + (one_in(5) ? below(9000) / (shape.predicates + 1) : below(2));
     }
     if (one_in(150) && shape.predicates > 0)
         shape.count[0] = one_in(2) ? 1024 : 200 + below(300);
+    make_spread(&shape);
     return shape;
 }
 
 /* So many ascending rows, over few terms so that they meet; `fault` may stand in the last. */
-static void put_rows(struct file *file, uint32_t count, enum fault fault) {
+static void put_rows(struct file *file, const struct shape *shape, uint32_t count, enum fault fault) {
     uint32_t terms = count > 36 ? 40 + below(30) : 7, row = count > 36 ? 0 : below(terms * terms - count + 1);
     for (uint32_t r = 0; r < count; r++) {
         int here = fault != NO_FAULT && r + 1 == count;
-        uint32_t shift = here && fault == WIDE_TERM ? 65536 : 0, in_object = below(2);
+        uint32_t shift = here && fault == WIDE_TERM ? GREATEST_TERM + 1 : 0, in_object = below(2);
         if (here && fault == ROW_NOT_ABOVE && r > 0)
             row -= 1 + below(2 < row ? 2 : 1);
         if (here && fault == BAD_NUMBER)
             put_bad_number(file);
-        put_number(file, row / terms + (in_object ? 0 : shift));
-        put_number(file, row % terms + (in_object ? shift : 0));
+        put_number(file, spread(shape, row / terms) + (in_object ? 0 : shift));
+        put_number(file, spread(shape, row % terms) + (in_object ? shift : 0));
         uint32_t left = count - r - 1;
         row += 1 + (left < terms * terms - row - 1 ? below((terms * terms - row - 1 - left) / (left + 1) + 1) : 0);
     }
@@ -98,14 +117,14 @@ static void put_site(struct file *file, struct shape shape, enum fault fault) {
     for (uint32_t i = 0; i < shape.predicates; i++) {
         uint32_t predicate = shape.term[i];
         if (i == at && fault == WIDE_PREDICATE)
-            predicate = 65536 + below(1000);
+            predicate = GREATEST_TERM + 1 + below(1000);
         if (i == at && fault == PREDICATE_NOT_ABOVE && i > 0)
             predicate = shape.term[i - 1] - (shape.term[i - 1] > 0 ? below(2) : 0);
         put_number(file, predicate);
         put_number(file, i == at && fault == MANY_ROWS ? 1025 + below(2000) : shape.count[i]);
     }
     for (uint32_t i = 0; i < shape.predicates; i++)
-        put_rows(file, shape.count[i], i == at ? fault : NO_FAULT);
+        put_rows(file, &shape, shape.count[i], i == at ? fault : NO_FAULT);
 }
 
 static void make_build(struct input *input, struct shape shape) {
@@ -148,15 +167,15 @@ size_t held_store(const struct input *input, uint32_t words[STORE_WORDS]) {
 
 /* ---- patterns: variables in first-use order, terms that the site has, and now and then a fault */
 
-static void put_position(struct file *file, uint32_t *seen) {
+static void put_position(struct file *file, const struct shape *shape, uint32_t *seen) {
     if (one_in(120))
         put_bad_number(file);
     else if (one_in(80))
-        put_number(file, term(65536 + below(1000)));
+        put_number(file, term(GREATEST_TERM + 1 + below(1000)));
     else if (one_in(60))
         put_number(file, variable(*seen + 1 + below(10)));
     else if (one_in(6))
-        put_number(file, term(below(8)));
+        put_number(file, term(spread(shape, below(8))));
     else {
         uint32_t v = below(*seen < 8 ? *seen + 1 : 8);
         if (v == *seen)
@@ -169,7 +188,7 @@ static void put_predicate(struct file *file, const struct shape *shape) {
     if (shape->predicates == 0 || one_in(60))
         put_number(file, term(below(20)));
     else if (one_in(80))
-        put_number(file, one_in(2) ? term(65536 + below(1000)) : variable(below(10)));
+        put_number(file, one_in(2) ? term(GREATEST_TERM + 1 + below(1000)) : variable(below(10)));
     else
         put_number(file, term(shape->term[below(shape->predicates)]));
 }
@@ -179,9 +198,9 @@ static void make_pattern(struct input *input, const struct shape *shape) {
     input->pattern.size = 0;
     put_number(&input->pattern, count);
     for (uint32_t i = 0; i < count && i < 10; i++) {
-        put_position(&input->pattern, &seen);
+        put_position(&input->pattern, shape, &seen);
         put_predicate(&input->pattern, shape);
-        put_position(&input->pattern, &seen);
+        put_position(&input->pattern, shape, &seen);
     }
     if (one_in(20))
         damage_file(&input->pattern);
@@ -216,7 +235,7 @@ static void make_plan(struct input *input, const uint32_t *store, size_t store_w
             choice = open[below((uint32_t)choices)];
         }
         put_number(&input->plan, one_in(60) ? below(9) : place);
-        put_number(&input->plan, one_in(40) ? below(30) : choice);
+        put_number(&input->plan, one_in(40) ? below(30) : one_in(200) ? 1u << 27 : choice);
     }
     if (one_in(12))
         damage_file(&input->plan);

@@ -10,7 +10,7 @@
 #include <stdlib.h>
 #include <string.h>
 
-enum { SITES = 240, DAMAGES = 6, MOST_ROWS = 1024, MOST_PREDICATES = 16 };
+enum { SITES = 280, WIDTHS = 7, DAMAGES = 6, MOST_ROWS = 1024, MOST_PREDICATES = 16 };
 
 static struct file site;
 static struct row rows[MOST_PREDICATES][MOST_ROWS];
@@ -70,12 +70,12 @@ static int told(size_t used, const uint8_t check[CHECK_BYTES]) {
 }
 
 int main(void) {
-    static const uint32_t terms[] = {20, 100, 300, 1000, 5000, 65536};
+    static const uint32_t terms[WIDTHS] = {20, 100, 300, 1000, 5000, 65536, 16777216};
     uint64_t answer[4], wanted[4];
     long made = 0, refused = 0, yes = 0, no = 0;
     for (uint32_t n = 0; n < SITES; n++) {
         const uint32_t predicates = 1 + random_below(MOST_PREDICATES), t = n % 3 == 0 ? random_below(1001) : 1000;
-        make_site(predicates, terms[n % 6], n / 6 % 2 == 0 ? terms[n % 6] : terms[n % 6] / 2);
+        make_site(predicates, terms[n % WIDTHS], n / WIDTHS % 2 == 0 ? terms[n % WIDTHS] : terms[n % WIDTHS] / 2);
         if (closing_build(t, site.byte, site.size, store, CLOSING_STORE_WORDS, answer) != 0) return 1;
         if (reference_build(t, site.byte, site.size, expected, CLOSING_STORE_WORDS, wanted) != 0) return 1;
         const size_t used = (size_t)answer[1];
@@ -83,7 +83,7 @@ int main(void) {
         for (int damage = 0; damage <= DAMAGES; damage++) {
             const size_t at = random_below((uint32_t)used);
             const uint32_t kept = store[at];
-            if (damage > 0) store[at] = damage % 2 == 0 ? kept + 1 : random_below(70000);
+            if (damage > 0) store[at] = damage % 2 == 0 ? kept + 1 : random_below(17000000);
             const uint32_t p = 1 + random_below(predicates), q = 1 + random_below(predicates);
             const uint8_t check[CHECK_BYTES] = {2, 1, (uint8_t)(2 * p), 3, 3, (uint8_t)(2 * q), 5};
             const int number = planned(used, check), kind = told(used, check);

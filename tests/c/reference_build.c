@@ -7,7 +7,7 @@
 
 int take_number(struct bytes *file, uint32_t *value) {
     *value = 0;
-    for (int place = 0; place < 3; place++) {
+    for (int place = 0; place < 4; place++) {
         if (file->at == file->size)
             return 0;
         uint8_t byte = file->data[file->at++];

@@ -5,7 +5,7 @@
 #include <stddef.h>
 #include <stdint.h>
 
-enum { MOST_PREDICATES = 16, MOST_ROWS = 1024, MOST_TRIPLES = 8, MOST_VARIABLES = 8, KINDS = 3, MOST_TERM = 65535, MOST_THRESHOLD = 1000 };
+enum { MOST_PREDICATES = 16, MOST_ROWS = 1024, MOST_TRIPLES = 8, MOST_VARIABLES = 8, KINDS = 3, MOST_TERM = 16777215, MOST_THRESHOLD = 1000 };
 
 enum { ROWS = 1, NONE = 2, BUILT = 3, PLAN = 4, YES = 5, NO = 6 };
 
@@ -35,7 +35,7 @@ struct pattern {
     const struct table *table[MOST_TRIPLES];
 };
 
-/* A number of 1 to 3 bytes, seven bits each, low group first, in shortest form; 0 where there is none. */
+/* A number of 1 to 4 bytes, seven bits each, low group first, in shortest form; 0 where there is none. */
 int take_number(struct bytes *file, uint32_t *value);
 
 void set_answer(uint64_t answer[4], uint64_t kind, uint64_t first, uint64_t second);

@@ -12,7 +12,7 @@ use Rattle.model.specs.Plan.{Plan}
 use Rattle.model.specs.PlanFile.{readPlan}
 use Rattle.model.specs.Solutions.{solutions}
 use Rattle.model.specs.Join.{nothingMet}
-use Rattle.model.specs.Calls.{outcome, unaltered, either, Check, checkOf, checked, givenPlan, rowsOutcome, run, yesOrNo, whether}
+use Rattle.model.specs.Calls.{outcome, unaltered, either, Check, checkOf, checked, givenPlanUnder, givenPlan, rowsOutcome, runUnder, run, yesOrNo, whetherUnder, whether}
 use Rattle.model.specs.declared.answer.Answer.the-variants.{None, Yes, No, Refused}
 use Rattle.model.proofs.Calls.{none-by-counts}
 use Rattle.model.proofs.Whether.{told-found}
@@ -30,7 +30,7 @@ use Rattle.closing.proofs.Checks.{after-refusal, after-check, check-giv
 module _ (words bytes planBytes : List ℕ) (r : PatternRead) (read : CheckedAs words (checked words bytes) r) where
   -- the check is refused
   pub check-refused : {B : Type 0} (refusal : ℕ → B) (next : Check → B) → (r .refusal ≡ 0 → ⊥) → either refusal (givenPlan words bytes planBytes) next ≡ refusal (r .refusal)
-  unfolding givenPlan
+  unfolding givenPlanUnder
   check-refused refusal next h = either-refused refusal next (after-refusal words bytes r read refused _ h)
 
   -- it is accepted
@@ -44,7 +44,7 @@ module _ (words bytes planBytes : List ℕ) (r : PatternRead) (read : CheckedAs 
     module _ (steps : List ℕ) (p : Prepared) (prepared : PreparedAs words steps pattern planReply p) where
       -- and the plan is refused
       pub plan-refused : {B : Type 0} (refusal : ℕ → B) (next : Check → B) → (p .refusal ≡ 0 → ⊥) → either refusal (givenPlan words bytes planBytes) next ≡ refusal (p .refusal)
-      unfolding givenPlan
+      unfolding givenPlanUnder
       plan-refused refusal next h =
           let no-plan = reply-refused (λ _. StepsGiven words steps pattern p) planReply prepared h in
           either-refused refusal next (after-check words bytes r read refused _ accepted ∙ either-refused _ _ no-plan)
@@ -52,7 +52,7 @@ module _ (words bytes planBytes : List ℕ) (r : PatternRead) (read : CheckedAs 
       -- and so is the plan
       module _ (proper : p .refusal ≡ 0) where
         both-given : {B : Type 0} (refusal : ℕ → B) (next : Check → B) → either refusal (givenPlan words bytes planBytes) next ≡ next (checkOf (decoded words) pattern)
-        unfolding givenPlan
+        unfolding givenPlanUnder
         both-given refusal next =
             let given = reply-given (λ _. StepsGiven words steps pattern p) planReply prepared proper in
             either-gives refusal next (after-check words bytes r read refused _ accepted ∙ either-gives _ _ (given .1))
@@ -65,11 +65,11 @@ module _ (words bytes planBytes : List ℕ) (r : PatternRead) (read : CheckedAs 
 
         -- the counts say that there is no solution
         pub run-none : (memory : List ℕ) → p .empty ≡ true → run words bytes planBytes memory ≡ outcome None memory
-        unfolding run
+        unfolding runUnder
         run-none memory none = both-given (unaltered memory) _ ∙ rw (sym (steps-given .0) ∙ none) refl
 
         pub whether-none : p .empty ≡ true → whether words bytes planBytes ≡ No
-        unfolding whether yesOrNo
+        unfolding whetherUnder yesOrNo
         whether-none none =
             both-given Refused _
             ∙ ap yesOrNo (none-by-counts (decoded words .site) pattern (check-given words bytes r read accepted .2) (sym (steps-given .0) ∙ none))
@@ -77,7 +77,7 @@ module _ (words bytes planBytes : List ℕ) (r : PatternRead) (read : CheckedAs 
         -- they do not, and the steps are joined
         pub run-rows : (memory : List ℕ) → p .empty ≡ false
             → run words bytes planBytes memory ≡ rowsOutcome (p .width) (rowsFound words steps (p .count) (p .width)) memory
-        unfolding run
+        unfolding runUnder
         run-rows memory some =
             let (planned, wide) = steps-given .1 some in
             both-given (unaltered memory) _
@@ -87,7 +87,7 @@ module _ (words bytes planBytes : List ℕ) (r : PatternRead) (read : CheckedAs 
 
         pub whether-found : {found b : Bool} → p .empty ≡ false → found ≡ ltb 0 (length (joinFrom words steps (p .count) (p .count) nothingMet)) → found ≡ b
             → whether words bytes planBytes ≡ cond b Yes No
-        unfolding whether
+        unfolding whetherUnder
         whether-found some asked same =
             both-given Refused _
             ∙ told-found all

@@ -4,7 +4,7 @@ mod screen;
 use files::reading::read_file;
 use screen::show;
 
-const SITE_BYTES: usize = 8192;
+const SITE_BYTES: usize = 8448;
 
 const CHECK_BYTES: usize = 128;
 

@@ -2,6 +2,7 @@ ghost use mathlib.Core.Path.{_≡_};
 ghost use Prim.Native.Nat.{_≤_};
 ghost use lib.ListN.{length, take};
 ghost use Rattle.io.specs.Counts.{Counts};
+ghost use Rattle.model.specs.Chain.{siteBufferBytes, checkBufferBytes};
 ghost use Rattle.model.specs.Files.{taken};
 ghost use Rattle.model.specs.Text.{screen};
 ghost use Rattle.files.specs.Reading.{IsRead};
@@ -14,7 +15,7 @@ const ROW_WORDS: usize = 4096;
 
 // Puts all that is printed of the two files, as they were read, at the front of the screen's bytes, and gives its length.
 pub fn show(site: &[u8], zones: Reading, check: &[u8], question: Reading, out: &mut [u8]) -> usize
-    requires { ⌜ IsRead (zones .size) (zones .said) (now site) × IsRead (question .size) (question .said) (now check) × (86070 ≤ length (now out)) ⌝ }
+    requires { ⌜ IsRead (zones .size) (zones .said) (now site) × IsRead (question .size) (question .said) (now check) × (length (now site) ≡ siteBufferBytes) × (length (now check) ≡ checkBufferBytes) × (86070 ≤ length (now out)) ⌝ }
     ensures { λ r. ⌜ Counts r (now (out .exit)) ⌝ }
     ensures { λ r. ⌜ take r (now (out .exit)) ≡ screen (taken (now (site .entry)) (zones .size) (zones .said)) (taken (now (check .entry)) (question .size) (question .said)) ⌝ }
 {

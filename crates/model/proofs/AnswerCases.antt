@@ -5,11 +5,12 @@ use mathlib.Core.Option.{none, some}
 use mathlib.Core.List.{List, [], _∷_, _++_, map}
 use lib.ListN.{take, replicate}
 use Rattle.model.specs.Lists.{concatMap, below}
+use Rattle.model.specs.Numbers.{limitsOf01}
 use Rattle.model.specs.SiteFile.{readSite}
 use Rattle.model.specs.PatternFile.{readPattern}
 use Rattle.model.specs.Plan.{Plan}
 use Rattle.model.specs.Join.{Partial, joined}
-use Rattle.model.specs.Calls.{outcome, build, plan, run, whether}
+use Rattle.model.specs.Calls.{outcome, buildUnder, build, plan, runUnder, run, whether}
 use Rattle.model.specs.Chain.{chain}
 use Rattle.model.specs.declared.answer.Answer.the-variants.{Rows, None, Built, Refused}
 use Rattle.model.specs.declared.answer.Answer.the-variants.{Plan as PlanAnswer}
@@ -23,23 +24,24 @@ Refusal = List ℕ × ℕ
 
 abbrev pub refusedSites : List Refusal
 refusedSites =
-    -- 2: a number is missing, has more than three bytes, or is not in shortest form
+    -- 2: a number is missing, has more than four bytes, or is not in shortest form
     (0x01 ∷ 0x05 ∷ [], 2)
-    ∷ (0x80 ∷ 0x80 ∷ 0x80 ∷ 0x01 ∷ [], 2)
+    ∷ (0x80 ∷ 0x80 ∷ 0x80 ∷ 0x80 ∷ 0x01 ∷ [], 2)
     ∷ (0x01 ∷ 0x85 ∷ 0x00 ∷ [], 2)
-    -- 3: 17 predicates
+    -- 3: 17 predicates; 2,097,152 of them, which has four bytes
     ∷ (0x11 ∷ [], 3)
-    -- 4: predicate 65,536; a predicate equal to the one before it, or below it
-    ∷ (0x01 ∷ 0x80 ∷ 0x80 ∷ 0x04 ∷ [], 4)
+    ∷ (0x80 ∷ 0x80 ∷ 0x80 ∷ 0x01 ∷ [], 3)
+    -- 4: predicate 16,777,216; a predicate equal to the one before it, or below it
+    ∷ (0x01 ∷ 0x80 ∷ 0x80 ∷ 0x80 ∷ 0x08 ∷ [], 4)
     ∷ (0x02 ∷ 0x05 ∷ 0x00 ∷ 0x05 ∷ [], 4)
     ∷ (0x02 ∷ 0x05 ∷ 0x00 ∷ 0x04 ∷ [], 4)
     -- 5: 1,025 rows of one predicate, or of two together; of 1,024 the first is asked for
     ∷ (0x01 ∷ 0x05 ∷ 0x81 ∷ 0x08 ∷ [], 5)
     ∷ (0x02 ∷ 0x05 ∷ 0x80 ∷ 0x08 ∷ 0x06 ∷ 0x01 ∷ [], 5)
     ∷ (0x01 ∷ 0x05 ∷ 0x80 ∷ 0x08 ∷ [], 2)
-    -- 6: subject 65,536; object 65,536
-    ∷ (0x01 ∷ 0x05 ∷ 0x01 ∷ 0x80 ∷ 0x80 ∷ 0x04 ∷ [], 6)
-    ∷ (0x01 ∷ 0x05 ∷ 0x01 ∷ 0x0A ∷ 0x80 ∷ 0x80 ∷ 0x04 ∷ [], 6)
+    -- 6: subject 16,777,216; object 16,777,216
+    ∷ (0x01 ∷ 0x05 ∷ 0x01 ∷ 0x80 ∷ 0x80 ∷ 0x80 ∷ 0x08 ∷ [], 6)
+    ∷ (0x01 ∷ 0x05 ∷ 0x01 ∷ 0x0A ∷ 0x80 ∷ 0x80 ∷ 0x80 ∷ 0x08 ∷ [], 6)
     -- 7: a row equal to the one before it; its object below; its subject below, though its object is above
     ∷ (0x01 ∷ 0x05 ∷ 0x02 ∷ 0x0A ∷ 0x14 ∷ 0x0A ∷ 0x14 ∷ [], 7)
     ∷ (0x01 ∷ 0x05 ∷ 0x02 ∷ 0x0A ∷ 0x14 ∷ 0x0A ∷ 0x13 ∷ [], 7)
@@ -50,10 +52,10 @@ refusedSites =
     ∷ (0x02 ∷ 0x05 ∷ 0x81 ∷ 0x08 ∷ 0x05 ∷ [], 5)
     ∷ (0x02 ∷ 0x05 ∷ 0x00 ∷ 0x05 ∷ 0x81 ∷ 0x08 ∷ [], 4)
     -- 5 of the second predicate and 6 in the rows of the first
-    ∷ (0x02 ∷ 0x05 ∷ 0x01 ∷ 0x06 ∷ 0x80 ∷ 0x08 ∷ 0x80 ∷ 0x80 ∷ 0x04 ∷ [], 5)
+    ∷ (0x02 ∷ 0x05 ∷ 0x01 ∷ 0x06 ∷ 0x80 ∷ 0x08 ∷ 0x80 ∷ 0x80 ∷ 0x80 ∷ 0x08 ∷ [], 5)
     -- 6 and 7 of one row; 7 of a row and 6 of the next; 7 of the last row and a byte more
-    ∷ (0x01 ∷ 0x05 ∷ 0x02 ∷ 0x0A ∷ 0x14 ∷ 0x09 ∷ 0x80 ∷ 0x80 ∷ 0x04 ∷ [], 6)
-    ∷ (0x01 ∷ 0x05 ∷ 0x03 ∷ 0x0A ∷ 0x14 ∷ 0x0A ∷ 0x14 ∷ 0x80 ∷ 0x80 ∷ 0x04 ∷ [], 7)
+    ∷ (0x01 ∷ 0x05 ∷ 0x02 ∷ 0x0A ∷ 0x14 ∷ 0x09 ∷ 0x80 ∷ 0x80 ∷ 0x80 ∷ 0x08 ∷ [], 6)
+    ∷ (0x01 ∷ 0x05 ∷ 0x03 ∷ 0x0A ∷ 0x14 ∷ 0x0A ∷ 0x14 ∷ 0x80 ∷ 0x80 ∷ 0x80 ∷ 0x08 ∷ [], 7)
     ∷ (0x01 ∷ 0x05 ∷ 0x02 ∷ 0x0A ∷ 0x14 ∷ 0x0A ∷ 0x14 ∷ 0x00 ∷ [], 7)
     ∷ []
 
@@ -75,9 +77,20 @@ oneEmptyWords =
     -- 1 against 1 and 2, and 2 against 1; then 2 against 2, and the row
     ∷ (replicate 18 0 ++ 1 ∷ 0 ∷ 0 ∷ 0 ∷ 0 ∷ 0 ∷ 10 ∷ 20 ∷ [])
 
--- predicate 65,535 with the rows 300 65,535 and 65,535 300: numbers of two and three bytes
+-- predicate 16,777,215 with the rows 300 16,777,215, 65,536 16,777,215 and 16,777,215 300: numbers of two, three and four bytes
 abbrev pub longNumbers : List ℕ
-longNumbers = 0x01 ∷ 0xFF ∷ 0xFF ∷ 0x03 ∷ 0x02 ∷ 0xAC ∷ 0x02 ∷ 0xFF ∷ 0xFF ∷ 0x03 ∷ 0xFF ∷ 0xFF ∷ 0x03 ∷ 0xAC ∷ 0x02 ∷ []
+longNumbers =
+    0x01 ∷ 0xFF ∷ 0xFF ∷ 0xFF ∷ 0x07 ∷ 0x03
+    ∷ 0xAC ∷ 0x02 ∷ 0xFF ∷ 0xFF ∷ 0xFF ∷ 0x07
+    ∷ 0x80 ∷ 0x80 ∷ 0x04 ∷ 0xFF ∷ 0xFF ∷ 0xFF ∷ 0x07
+    ∷ 0xFF ∷ 0xFF ∷ 0xFF ∷ 0x07 ∷ 0xAC ∷ 0x02 ∷ []
+
+-- its subjects are all but 65,536 objects too
+abbrev pub longWords : List ℕ
+longWords =
+    1 ∷ 1000 ∷ 22 ∷ 16777215 ∷ 3 ∷ 12 ∷ 3 ∷ 0 ∷ 3 ∷ 0 ∷ 2 ∷ 18
+    ∷ 300 ∷ 16777215 ∷ 65536 ∷ 16777215 ∷ 16777215 ∷ 300
+    ∷ 300 ∷ 16777215 ∷ 16777215 ∷ 300 ∷ []
 
 abbrev pub buildCases : List Case
 buildCases =
@@ -91,10 +104,7 @@ buildCases =
     ∷ (build 1000 (0x00 ∷ []) (lent 2), outcome (Refused 9) (lent 2))
     -- within the limits
     ∷ (build 1000 oneEmpty (lent 35), outcome (Built 35) oneEmptyWords)
-    ∷ (
-      build 1000 longNumbers (lent 16),
-      outcome (Built 16) (1 ∷ 1000 ∷ 16 ∷ 65535 ∷ 2 ∷ 12 ∷ 2 ∷ 0 ∷ 2 ∷ 0 ∷ 2 ∷ 0 ∷ 300 ∷ 65535 ∷ 65535 ∷ 300 ∷ []),
-    )
+    ∷ (build 1000 longNumbers (lent 22), outcome (Built 22) longWords)
     ∷ []
 
 pub builds-worked : Hold buildCases
@@ -106,22 +116,23 @@ builds-worked = refl
 -- predicates 1 and 2 are declared
 abbrev pub refusedChecks : List Refusal
 refusedChecks =
-    -- 11: a number is missing, does not end, has more than three bytes, or is not in shortest form
+    -- 11: a number is missing, does not end, has more than four bytes, or is not in shortest form
     ([], 11)
     ∷ (0x01 ∷ 0x01 ∷ 0x04 ∷ [], 11)
     ∷ (0x01 ∷ 0x81 ∷ [], 11)
-    ∷ (0x80 ∷ 0x80 ∷ 0x80 ∷ 0x01 ∷ [], 11)
+    ∷ (0x80 ∷ 0x80 ∷ 0x80 ∷ 0x80 ∷ 0x01 ∷ [], 11)
     ∷ (0x01 ∷ 0x81 ∷ 0x00 ∷ [], 11)
-    -- 12: 9 triple patterns
+    -- 12: 9 triple patterns; 2,097,152 of them
     ∷ (0x09 ∷ [], 12)
-    -- 13: a variable; term 65,536
+    ∷ (0x80 ∷ 0x80 ∷ 0x80 ∷ 0x01 ∷ [], 12)
+    -- 13: a variable; term 16,777,216
     ∷ (0x01 ∷ 0x01 ∷ 0x03 ∷ [], 13)
-    ∷ (0x01 ∷ 0x01 ∷ 0x80 ∷ 0x80 ∷ 0x08 ∷ [], 13)
-    -- 14: 65,535 is a term, and not declared
-    ∷ (0x01 ∷ 0x01 ∷ 0xFE ∷ 0xFF ∷ 0x07 ∷ [], 14)
-    -- 15: subject 65,536; object 65,536
-    ∷ (0x01 ∷ 0x80 ∷ 0x80 ∷ 0x08 ∷ [], 15)
-    ∷ (0x01 ∷ 0x01 ∷ 0x04 ∷ 0x80 ∷ 0x80 ∷ 0x08 ∷ [], 15)
+    ∷ (0x01 ∷ 0x01 ∷ 0x80 ∷ 0x80 ∷ 0x80 ∷ 0x10 ∷ [], 13)
+    -- 14: 16,777,215 is a term, and not declared
+    ∷ (0x01 ∷ 0x01 ∷ 0xFE ∷ 0xFF ∷ 0xFF ∷ 0x0F ∷ [], 14)
+    -- 15: subject 16,777,216; object 16,777,216
+    ∷ (0x01 ∷ 0x80 ∷ 0x80 ∷ 0x80 ∷ 0x10 ∷ [], 15)
+    ∷ (0x01 ∷ 0x01 ∷ 0x04 ∷ 0x80 ∷ 0x80 ∷ 0x80 ∷ 0x10 ∷ [], 15)
     -- 16: ?1 first; ?2 behind ?0; ?8 first, and as the ninth variable
     ∷ (0x01 ∷ 0x03 ∷ [], 16)
     ∷ (0x01 ∷ 0x01 ∷ 0x04 ∷ 0x05 ∷ [], 16)
@@ -130,13 +141,13 @@ refusedChecks =
     -- 17: a byte more, which is not read as a number
     ∷ (0x01 ∷ 0x14 ∷ 0x04 ∷ 0x28 ∷ 0x80 ∷ [], 17)
     -- two faults: 15 or 16 of the subject and 13 of the predicate
-    ∷ (0x01 ∷ 0x80 ∷ 0x80 ∷ 0x08 ∷ 0x03 ∷ [], 15)
+    ∷ (0x01 ∷ 0x80 ∷ 0x80 ∷ 0x80 ∷ 0x10 ∷ 0x03 ∷ [], 15)
     ∷ (0x01 ∷ 0x03 ∷ 0x03 ∷ [], 16)
     -- 13 or 14 of the predicate and 15 or 16 of the object
-    ∷ (0x01 ∷ 0x01 ∷ 0x03 ∷ 0x80 ∷ 0x80 ∷ 0x08 ∷ [], 13)
+    ∷ (0x01 ∷ 0x01 ∷ 0x03 ∷ 0x80 ∷ 0x80 ∷ 0x80 ∷ 0x10 ∷ [], 13)
     ∷ (0x01 ∷ 0x01 ∷ 0x06 ∷ 0x05 ∷ [], 14)
     -- 15 of the first object and 13 of the second predicate
-    ∷ (0x02 ∷ 0x01 ∷ 0x04 ∷ 0x80 ∷ 0x80 ∷ 0x08 ∷ 0x01 ∷ 0x03 ∷ [], 15)
+    ∷ (0x02 ∷ 0x01 ∷ 0x04 ∷ 0x80 ∷ 0x80 ∷ 0x80 ∷ 0x10 ∷ 0x01 ∷ 0x03 ∷ [], 15)
     ∷ []
 
 -- by each call that is given a check
@@ -156,20 +167,24 @@ checks-refused = refl
 -- of the shop's check
 abbrev pub refusedPlans : List Refusal
 refusedPlans =
-    -- 18: no step; no choice; a choice that does not end, or is not in shortest form; a step short; a byte more
+    -- 18: no step; no choice; a choice that does not end, has more than four bytes, or is not in shortest form; a step short; a byte more
     ([], 18)
     ∷ (0x00 ∷ [], 18)
     ∷ (0x00 ∷ 0x80 ∷ [], 18)
+    ∷ (0x00 ∷ 0x80 ∷ 0x80 ∷ 0x80 ∷ 0x80 ∷ 0x01 ∷ [], 18)
     ∷ (0x00 ∷ 0x84 ∷ 0x00 ∷ [], 18)
     ∷ (0x00 ∷ 0x00 ∷ 0x01 ∷ 0x00 ∷ [], 18)
     ∷ (0x00 ∷ 0x00 ∷ 0x01 ∷ 0x00 ∷ 0x02 ∷ 0x00 ∷ 0x00 ∷ [], 18)
-    -- 19: place 3 of three
+    -- 19: place 3 of three; a place of four bytes
     ∷ (0x03 ∷ [], 19)
-    -- 20: a table against its own place, against place 3, of a kind that does not qualify; SS of in against covers, which is whole and so not stored
+    ∷ (0x80 ∷ 0x80 ∷ 0x80 ∷ 0x01 ∷ [], 19)
+    -- 20: a table against its own place, against place 3, of a kind that does not qualify; SS of in against covers, which is whole and so not stored;
+    -- a choice of four bytes
     ∷ (0x00 ∷ 0x01 ∷ [], 20)
     ∷ (0x00 ∷ 0x0A ∷ [], 20)
     ∷ (0x00 ∷ 0x05 ∷ [], 20)
     ∷ (0x01 ∷ 0x01 ∷ [], 20)
+    ∷ (0x00 ∷ 0x80 ∷ 0x80 ∷ 0x80 ∷ 0x01 ∷ [], 20)
     -- two faults: 19 of the place and 18 of its choice; 20 of a choice and 19 of the next place
     ∷ (0x00 ∷ 0x00 ∷ 0x00 ∷ [], 19)
     ∷ (0x00 ∷ 0x01 ∷ 0x00 ∷ [], 20)
@@ -192,9 +207,13 @@ plans-refused = refl
 abbrev pub crossJoin : List ℕ
 crossJoin = 0x02 ∷ 0x01 ∷ 0x04 ∷ 0x3C ∷ 0x03 ∷ 0x06 ∷ 0x52 ∷ []
 
--- predicate 0 with the row 0 0
-abbrev pub onlyZero : List ℕ
-onlyZero = 1 ∷ 1000 ∷ 14 ∷ 0 ∷ 1 ∷ 12 ∷ 1 ∷ 0 ∷ 1 ∷ 0 ∷ 1 ∷ 0 ∷ 0 ∷ 0 ∷ []
+-- predicate 0 with the row x x
+abbrev pub oneRow : ℕ → List ℕ
+oneRow x = 1 ∷ 1000 ∷ 14 ∷ 0 ∷ 1 ∷ 12 ∷ 1 ∷ 0 ∷ 1 ∷ 0 ∷ 1 ∷ 0 ∷ x ∷ x ∷ []
+
+-- ?0 16,777,215 ?1, ?1 16,777,215 ?0
+abbrev pub thereAndBack : List ℕ
+thereAndBack = 0x02 ∷ 0x01 ∷ 0xFE ∷ 0xFF ∷ 0xFF ∷ 0x0F ∷ 0x03 ∷ 0x03 ∷ 0xFE ∷ 0xFF ∷ 0xFF ∷ 0x0F ∷ 0x01 ∷ []
 
 -- ?0 0 ?1, ?2 0 ?3, ?4 0 ?5, ?6 0 ?7
 abbrev pub eightVariables : List ℕ
@@ -219,21 +238,55 @@ runCases =
     ∷ (run (stored 1000) crossJoin (0x00 ∷ 0x00 ∷ 0x01 ∷ 0x00 ∷ []) (lent 3), outcome (Refused 21) (lent 3))
     ∷ (run (stored 1000) crossJoin (0x00 ∷ 0x00 ∷ 0x01 ∷ 0x00 ∷ []) (lent 4), outcome (Rows 2 2) (10 ∷ 21 ∷ 11 ∷ 21 ∷ []))
     ∷ (run oneEmptyWords (0x01 ∷ 0x14 ∷ 0x04 ∷ 0x28 ∷ []) (0x00 ∷ 0x00 ∷ []) [], outcome (Rows 1 0) [])
-    -- 8 triple patterns; 8 variables; subject 65,535, which no row has
+    -- 8 triple patterns; 8 variables; subject 16,777,215, which no row has
     ∷ (
       run oneEmptyWords (0x08 ∷ concatMap (λ _. 0x14 ∷ 0x04 ∷ 0x28 ∷ []) (below 8)) (concatMap (λ i. i ∷ 0x00 ∷ []) (below 8)) [],
       outcome (Rows 1 0) [],
     )
     ∷ (
-      run onlyZero eightVariables (0x00 ∷ 0x00 ∷ 0x01 ∷ 0x00 ∷ 0x02 ∷ 0x00 ∷ 0x03 ∷ 0x00 ∷ []) (lent 9),
+      run (oneRow 0) eightVariables (0x00 ∷ 0x00 ∷ 0x01 ∷ 0x00 ∷ 0x02 ∷ 0x00 ∷ 0x03 ∷ 0x00 ∷ []) (lent 9),
       outcome (Rows 1 8) (replicate 8 0 ++ 7 ∷ []),
     )
-    ∷ (run oneEmptyWords (0x01 ∷ 0xFE ∷ 0xFF ∷ 0x07 ∷ 0x04 ∷ 0x01 ∷ []) (0x00 ∷ 0x00 ∷ []) (lent 1), outcome None (lent 1))
+    ∷ (run oneEmptyWords (0x01 ∷ 0xFE ∷ 0xFF ∷ 0xFF ∷ 0x0F ∷ 0x04 ∷ 0x01 ∷ []) (0x00 ∷ 0x00 ∷ []) (lent 1), outcome None (lent 1))
+    -- terms above 65,535, by a stored table; the greatest term in a store, and 10 of one above it
+    ∷ (run longWords thereAndBack (0x00 ∷ 0x06 ∷ 0x01 ∷ 0x00 ∷ []) (lent 4), outcome (Rows 2 2) (300 ∷ 16777215 ∷ 16777215 ∷ 300 ∷ []))
+    ∷ (run (oneRow 16777215) (0x01 ∷ 0x01 ∷ 0x00 ∷ 0x01 ∷ []) (0x00 ∷ 0x00 ∷ []) (lent 1), outcome (Rows 1 1) (16777215 ∷ []))
+    ∷ (run (oneRow 16777216) (0x01 ∷ 0x01 ∷ 0x00 ∷ 0x01 ∷ []) (0x00 ∷ 0x00 ∷ []) (lent 1), outcome (Refused 10) (lent 1))
     ∷ []
 
 pub runs-worked : Hold runCases
 unfolding computing
 runs-worked = refl
+
+-- ---- wider limits: what the limits of document 01 refuse, and what is answered now
+
+abbrev pub widenedCases : List Case
+widenedCases =
+    -- four bytes of a number were too many: 2, and now 3; predicate 65,536 was 4, subject and object 65,536 were 6
+    (buildUnder limitsOf01 1000 (0x80 ∷ 0x80 ∷ 0x80 ∷ 0x01 ∷ []) [], outcome (Refused 2) [])
+    ∷ (build 1000 (0x80 ∷ 0x80 ∷ 0x80 ∷ 0x01 ∷ []) [], outcome (Refused 3) [])
+    ∷ (buildUnder limitsOf01 1000 (0x01 ∷ 0x80 ∷ 0x80 ∷ 0x04 ∷ 0x00 ∷ []) (lent 12), outcome (Refused 4) (lent 12))
+    ∷ (build 1000 (0x01 ∷ 0x80 ∷ 0x80 ∷ 0x04 ∷ 0x00 ∷ []) (lent 12), outcome (Built 12) (1 ∷ 1000 ∷ 12 ∷ 65536 ∷ 0 ∷ 12 ∷ replicate 6 0))
+    ∷ (buildUnder limitsOf01 1000 (0x01 ∷ 0x00 ∷ 0x01 ∷ 0x80 ∷ 0x80 ∷ 0x04 ∷ 0x80 ∷ 0x80 ∷ 0x04 ∷ []) (lent 14), outcome (Refused 6) (lent 14))
+    ∷ (build 1000 (0x01 ∷ 0x00 ∷ 0x01 ∷ 0x80 ∷ 0x80 ∷ 0x04 ∷ 0x80 ∷ 0x80 ∷ 0x04 ∷ []) (lent 14), outcome (Built 14) (oneRow 65536))
+    -- words that were no store
+    ∷ (runUnder limitsOf01 (oneRow 65536) [] [] [], outcome (Refused 10) [])
+    ∷ (run (oneRow 65536) [] [] [], outcome (Refused 11) [])
+    -- a check's number of four bytes was 11, and is 12; predicate 65,536 was 13, and is 14; subject 65,536 was 15
+    ∷ (runUnder limitsOf01 (oneRow 0) (0x80 ∷ 0x80 ∷ 0x80 ∷ 0x01 ∷ []) [] [], outcome (Refused 11) [])
+    ∷ (run (oneRow 0) (0x80 ∷ 0x80 ∷ 0x80 ∷ 0x01 ∷ []) [] [], outcome (Refused 12) [])
+    ∷ (runUnder limitsOf01 (oneRow 0) (0x01 ∷ 0x01 ∷ 0x80 ∷ 0x80 ∷ 0x08 ∷ []) [] [], outcome (Refused 13) [])
+    ∷ (run (oneRow 0) (0x01 ∷ 0x01 ∷ 0x80 ∷ 0x80 ∷ 0x08 ∷ []) [] [], outcome (Refused 14) [])
+    ∷ (runUnder limitsOf01 (oneRow 0) (0x01 ∷ 0x80 ∷ 0x80 ∷ 0x08 ∷ 0x00 ∷ 0x01 ∷ []) (0x00 ∷ 0x00 ∷ []) [], outcome (Refused 15) [])
+    ∷ (run (oneRow 0) (0x01 ∷ 0x80 ∷ 0x80 ∷ 0x08 ∷ 0x00 ∷ 0x01 ∷ []) (0x00 ∷ 0x00 ∷ []) [], outcome None [])
+    -- a choice of four bytes was 18, and is 20
+    ∷ (runUnder limitsOf01 (oneRow 0) (0x01 ∷ 0x01 ∷ 0x00 ∷ 0x01 ∷ []) (0x00 ∷ 0x80 ∷ 0x80 ∷ 0x80 ∷ 0x01 ∷ []) [], outcome (Refused 18) [])
+    ∷ (run (oneRow 0) (0x01 ∷ 0x01 ∷ 0x00 ∷ 0x01 ∷ []) (0x00 ∷ 0x80 ∷ 0x80 ∷ 0x80 ∷ 0x01 ∷ []) [], outcome (Refused 20) [])
+    ∷ []
+
+pub widened-worked : Hold widenedCases
+unfolding computing
+widened-worked = refl
 
 -- ---- the join
 
@@ -289,10 +342,12 @@ printedCases =
       shown (chain shop (0x01 ∷ 0x14 ∷ 0x02 ∷ 0x28 ∷ []) []),
       outcome (Rows 1 0) (114 ∷ 111 ∷ 119 ∷ 115 ∷ 32 ∷ 49 ∷ 32 ∷ 119 ∷ 105 ∷ 100 ∷ 116 ∷ 104 ∷ 32 ∷ 48 ∷ 10 ∷ 10 ∷ []),
     )
-    -- 300 65,535 ?0: rows 1 width 1, and 65535
+    -- 300 16,777,215 ?0: rows 1 width 1, and 16777215
     ∷ (
-      shown (chain longNumbers (0x01 ∷ 0xD8 ∷ 0x04 ∷ 0xFE ∷ 0xFF ∷ 0x07 ∷ 0x01 ∷ []) (lent 1)),
-      outcome (Rows 1 1) (114 ∷ 111 ∷ 119 ∷ 115 ∷ 32 ∷ 49 ∷ 32 ∷ 119 ∷ 105 ∷ 100 ∷ 116 ∷ 104 ∷ 32 ∷ 49 ∷ 10 ∷ 54 ∷ 53 ∷ 53 ∷ 51 ∷ 53 ∷ 10 ∷ []),
+      shown (chain longNumbers (0x01 ∷ 0xD8 ∷ 0x04 ∷ 0xFE ∷ 0xFF ∷ 0xFF ∷ 0x0F ∷ 0x01 ∷ []) (lent 1)),
+      outcome (Rows 1 1)
+          (114 ∷ 111 ∷ 119 ∷ 115 ∷ 32 ∷ 49 ∷ 32 ∷ 119 ∷ 105 ∷ 100 ∷ 116 ∷ 104 ∷ 32 ∷ 49 ∷ 10
+          ∷ 49 ∷ 54 ∷ 55 ∷ 55 ∷ 55 ∷ 50 ∷ 49 ∷ 53 ∷ 10 ∷ []),
     )
     ∷ []
 

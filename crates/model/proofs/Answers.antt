@@ -18,7 +18,7 @@ use Rattle.model.specs.Tables.{at, mostThreshold}
 use Rattle.model.specs.Store.{layout, Holds, Store, storeAt}
 use Rattle.model.specs.Pattern.{width}
 use Rattle.model.specs.Solutions.{IsSolution, solutions}
-use Rattle.model.specs.Calls.{Outcome, over, unaltered, build, plan, rowsOutcome, run, yesOrNo, whether}
+use Rattle.model.specs.Calls.{Outcome, over, unaltered, buildUnder, build, planUnder, plan, rowsOutcome, run, yesOrNo, whetherUnder, whether}
 use Rattle.model.specs.Answers.{BuildAnswer, Accepted, PlanCallAnswer, RunAnswer, WhetherAnswer}
 use Rattle.model.specs.Chain.{chainThreshold, chainStoreWords, isRefused, unlessRefused, stepBytes, planAndRun, chain, NoMatch}
 use Rattle.model.specs.declared.answer.Answer.{Answer}
@@ -32,7 +32,7 @@ use Rattle.model.proofs.Refusals.{site-refuses}
 use Rattle.model.proofs.Calls.{by-reply, by-question, by-check, by-given, by-run, wider}
 
 pub build-answers : (t : ℕ) (bytes memory : List ℕ) → BuildAnswer t bytes memory (build t bytes memory)
-unfolding build
+unfolding buildUnder
 build-answers t bytes memory =
     by-question (BuildAnswer t bytes memory) (unaltered memory) 1 (leb t mostThreshold) _ (inl (1, omega arith, refl))
     λ low. by-reply (BuildAnswer t bytes memory) (unaltered memory) (readSite bytes) _
@@ -41,7 +41,7 @@ build-answers t bytes memory =
     λ _. inr (site, leb-true t mostThreshold low, e, refl)
 
 pub plan-answers : (words bytes : List ℕ) → PlanCallAnswer words bytes (plan words bytes)
-unfolding plan
+unfolding planUnder
 plan-answers words bytes =
     by-check (PlanCallAnswer words bytes) _ words bytes _ (λ n between. inl (n, between, refl)) λ c. inr (c, refl)
 
@@ -72,7 +72,7 @@ run-answers words bytes steps memory =
     λ c. by-rows words bytes c memory (solutions (c .store .site) (c .pattern)) refl
 
 pub whether-answers : (words bytes steps : List ℕ) → WhetherAnswer words bytes (whether words bytes steps)
-unfolding whether
+unfolding whetherUnder
 whether-answers words bytes steps =
     by-given (WhetherAnswer words bytes) Refused words bytes steps _ (λ n between. inl (n, between, refl))
     λ c. by-first words bytes c (solutions (c .store .site) (c .pattern)) refl

@@ -13,14 +13,14 @@ use Rattle.model.specs.Lists.{any}
 use Rattle.model.specs.Reader.{Reply, refused, gives}
 use Rattle.model.specs.Site.{Row, Site}
 use Rattle.model.specs.Tables.{Kind, kinds}
-use Rattle.model.specs.Store.{Store, decoded, isStoreOf, storeOf}
+use Rattle.model.specs.Store.{Store, decoded, isStoreOf, storeOfUnder, storeOf}
 use Rattle.model.specs.Pattern.{Pattern, width, places, isAccepted, fullTable}
 use Rattle.model.specs.PatternFile.{readPattern}
 use Rattle.model.specs.Plan.{qualifies, reducedTable}
 use Rattle.model.specs.PlanFile.{readPlan}
 use Rattle.model.specs.Solutions.{solutions}
 use Rattle.model.specs.Answers.{Between, Accepted}
-use Rattle.model.specs.Calls.{Outcome, outcome, either, question, storeReply, unaltered, Check, checkOf, checked, givenPlan, emptyAgainst, noneByCounts, EmptyFor, rowsOutcome, run}
+use Rattle.model.specs.Calls.{Outcome, outcome, either, question, storeReply, unaltered, Check, checkOf, checkedUnder, checked, givenPlanUnder, givenPlan, emptyAgainst, noneByCounts, EmptyFor, rowsOutcome, runUnder, run}
 use Rattle.model.specs.declared.answer.Answer.the-variants.{None}
 use Rattle.model.proofs.Booleans.{and-cases, and-make, or-cases, or-right}
 use Rattle.model.proofs.Membership.{no-element, into-any, from-any}
@@ -95,7 +95,7 @@ pub by-check : {B : Type 0} (P : B → Type 0) (refusal : ℕ → B) (words byte
     → ((n : ℕ) → Between 10 17 n → P (refusal n))
     → ((a : Accepted words bytes) → P (next (checkOf (a .store) (a .pattern))))
     → P (either refusal (checked words bytes) next)
-unfolding either checked
+unfolding either checkedUnder
 by-check {B} P refusal words bytes next f g = go (storeOf words) refl
   where
     Then : Reply Check → Type 0
@@ -116,7 +116,7 @@ pub by-given : {B : Type 0} (P : B → Type 0) (refusal : ℕ → B) (words byte
     → ((n : ℕ) → Between 10 20 n → P (refusal n))
     → ((a : Accepted words bytes) → P (next (checkOf (a .store) (a .pattern))))
     → P (either refusal (givenPlan words bytes steps) next)
-unfolding either givenPlan
+unfolding either givenPlanUnder
 by-given P refusal words bytes steps next f g =
     by-check Then refused words bytes _ (λ n between. f n (wider 10 20 (omega arith) (omega arith) between))
     λ a. by-reply Then refused (readPlan (a .store) (a .pattern) steps) _
@@ -143,7 +143,7 @@ pub by-run : (P : Outcome → Type 0) (words bytes steps memory : List ℕ)
     → ((n : ℕ) → Between 10 20 n → P (unaltered memory n))
     → ((a : Accepted words bytes) → P (rowsOutcome (width (a .pattern)) (solutions (a .store .site) (a .pattern)) memory))
     → P (run words bytes steps memory)
-unfolding run
+unfolding runUnder
 by-run P words bytes steps memory f g =
     by-given P (unaltered memory) words bytes steps _ f
     λ a. rw (counts-agree (a .store .site) (a .pattern) (pattern-accepted (a .store .site) bytes (a .pattern) (a .read)) memory) (g a)
@@ -160,10 +160,10 @@ check-accepted words bytes c e = rw e at yes
 
 module _ (words bytes : List ℕ) where
   pub check-no-store : isStoreOf (decoded words) words ≡ false → checked words bytes ≡ refused 10
-  unfolding checked either storeOf
+  unfolding checkedUnder either storeOfUnder
   check-no-store e = rw e refl
 
   pub check-store : isStoreOf (decoded words) words ≡ true
       → checked words bytes ≡ either refused (readPattern (decoded words .site) bytes) (λ pattern. gives (checkOf (decoded words) pattern))
-  unfolding checked either storeOf
+  unfolding checkedUnder either storeOfUnder
   check-store e = rw e refl

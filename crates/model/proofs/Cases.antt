@@ -5,19 +5,19 @@ use mathlib.Core.List.{List, [], _∷_, _++_, map}
 use lib.ListN.{replicate}
 use Rattle.model.specs.Lists.{concatMap}
 use Rattle.model.specs.Reader.{Reply, refused, gives, after, ask, repeated, wholeFile}
-use Rattle.model.specs.Numbers.{numberWithin, numberIn, number}
-use Rattle.model.specs.Site.{Site, isSite, facts, isFact}
-use Rattle.model.specs.SiteFile.{declaration, row, tables, siteFile, readSite}
+use Rattle.model.specs.Numbers.{numberWithin, numberInUnder, numberUnder}
+use Rattle.model.specs.Site.{Site, isSiteUnder, facts, isFact}
+use Rattle.model.specs.SiteFile.{declarationUnder, rowUnder, tablesUnder, siteFileUnder, readSiteUnder, readSite}
 use Rattle.model.specs.Tables.{vp, semiJoin, isStored}
-use Rattle.model.specs.Store.{semiJoins, storedRows, semiJoinEntries, layout, tablesIn, decoded, isStoreOf, storeOf}
+use Rattle.model.specs.Store.{semiJoins, storedRows, semiJoinEntries, layout, tablesIn, decoded, isStoreOfUnder, storeOfUnder}
 use Rattle.model.specs.Pattern.{Pattern, variables, width, fullTable}
-use Rattle.model.specs.PatternFile.{askPosition, askPredicate, triplePattern, patternFile, readPattern}
+use Rattle.model.specs.PatternFile.{askPositionUnder, askPredicateUnder, triplePatternUnder, patternFileUnder, readPatternUnder, readPattern}
 use Rattle.model.specs.Plan.{Plan, qualifies, reducedTable, chosenTable, mayChoose}
-use Rattle.model.specs.PlanFile.{step, readPlan}
+use Rattle.model.specs.PlanFile.{stepUnder, readPlanUnder}
 use Rattle.model.specs.Planner.{tableRows, chooseTable, isJoined, termCount, chosenRows, beats, competitors, pick, order, planned}
 use Rattle.model.specs.Solutions.{terms, rowsOver, isSolution, solutions}
 use Rattle.model.specs.Join.{extend, joinTable, joined, joinRows}
-use Rattle.model.specs.Calls.{Outcome, outcome, either, build, checked, givenPlan, plan, noneByCounts, rowsOutcome, run, yesOrNo, whether, numberOf, valuesOf, planBytesOf, seenOf, seenOfAnswer, seenOfPlan}
+use Rattle.model.specs.Calls.{Outcome, outcome, either, buildUnder, build, checkedUnder, givenPlanUnder, planUnder, plan, noneByCounts, rowsOutcome, runUnder, run, yesOrNo, whetherUnder, whether, numberOf, valuesOf, planBytesOf, seenOf, seenOfAnswer, seenOfPlan}
 use Rattle.model.specs.Chain.{isRefused, planAndRun, chain}
 use Rattle.model.specs.Text.{decimalWithin, decimal, spaced, rowLine, firstLine, rowLines, printed}
 use Rattle.model.specs.declared.answer.Answer.{Answer}
@@ -121,7 +121,7 @@ Hold cases = map (λ c. c .0) cases ≡ map (λ c. c .1) cases
 
 -- unfolds with all that a case computes
 unfoldable pub computing : Unit {0}
-unfolding after ask repeated wholeFile numberWithin numberIn number isSite facts isFact declaration row tables siteFile readSite vp semiJoin isStored semiJoins storedRows semiJoinEntries layout tablesIn decoded isStoreOf storeOf variables width fullTable askPosition askPredicate triplePattern patternFile readPattern qualifies reducedTable chosenTable mayChoose step readPlan tableRows chooseTable isJoined termCount chosenRows beats competitors pick order planned terms rowsOver isSolution solutions extend joinTable joined joinRows either build checked givenPlan plan noneByCounts rowsOutcome run yesOrNo whether numberOf valuesOf planBytesOf isRefused planAndRun chain decimalWithin decimal spaced rowLine firstLine rowLines printed
+unfolding after ask repeated wholeFile numberWithin numberInUnder numberUnder isSiteUnder facts isFact declarationUnder rowUnder tablesUnder siteFileUnder readSiteUnder vp semiJoin isStored semiJoins storedRows semiJoinEntries layout tablesIn decoded isStoreOfUnder storeOfUnder variables width fullTable askPositionUnder askPredicateUnder triplePatternUnder patternFileUnder readPatternUnder qualifies reducedTable chosenTable mayChoose stepUnder readPlanUnder tableRows chooseTable isJoined termCount chosenRows beats competitors pick order planned terms rowsOver isSolution solutions extend joinTable joined joinRows either buildUnder checkedUnder givenPlanUnder planUnder noneByCounts rowsOutcome runUnder yesOrNo whetherUnder numberOf valuesOf planBytesOf isRefused planAndRun chain decimalWithin decimal spaced rowLine firstLine rowLines printed
 computing = tt
 
 abbrev pub cases : List Case

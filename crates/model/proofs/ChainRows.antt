@@ -22,7 +22,7 @@ use Rattle.model.specs.Plan.{Plan, isPlace, isStep, mayChoose, isProper}
 use Rattle.model.specs.PlanFile.{stepNumbers, planBytes}
 use Rattle.model.specs.Planner.{planned}
 use Rattle.model.specs.Solutions.{solutions}
-use Rattle.model.specs.Calls.{Outcome, outcome, either, build, checked, padded, planNumbers, plan, rowsOutcome}
+use Rattle.model.specs.Calls.{Outcome, outcome, either, build, checkedUnder, padded, planNumbers, planUnder, plan, rowsOutcome}
 use Rattle.model.specs.Chain.{chainThreshold, chainStoreWords, isRefused, unlessRefused, stepBytes, planAndRun, chain}
 use Rattle.model.specs.declared.answer.Answer.{Answer}
 use Rattle.model.specs.declared.answer.Answer.the-variants.{Rows, None, Built, Yes, No, Refused}
@@ -132,7 +132,7 @@ module _ (file check memory : List ℕ) (site : Site) (whole : readSite file ≡
 
   -- so is a refused plan
   pub chain-plan-refused : (n : ℕ) → readPattern site check ≡ refused n → chain file check memory ≡ outcome (Refused n) memory
-  unfolding planAndRun plan checked either
+  unfolding planAndRun planUnder checkedUnder either
   chain-plan-refused n e = over-built (outcome (Refused n) memory) λ words holds.
       refused-chain n memory _ _ (rw (store-complete words chainThreshold site holds, e) refl)
 

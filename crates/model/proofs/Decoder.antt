@@ -10,7 +10,7 @@ use borrow.Author.Tests.{leb-true, le-leb}
 use Rattle.model.specs.Lists.{sameWords}
 use Rattle.model.specs.Site.{Site, isSite}
 use Rattle.model.specs.Tables.{mostThreshold}
-use Rattle.model.specs.Store.{layout, wordsUsed, Holds, decoded, isStoreOf}
+use Rattle.model.specs.Store.{layout, wordsUsed, Holds, decoded, isStoreOfUnder, isStoreOf}
 use Rattle.model.proofs.Booleans.{and-cases, and-make}
 use Rattle.model.proofs.StoreLayout.{layout-used}
 use Rattle.model.proofs.Stores.{same-words, words-same, first-words}
@@ -22,7 +22,7 @@ abbrev pub thresholdOf : List ℕ → ℕ
 thresholdOf w = getD w 1 0
 
 pub store-holds : (w : List ℕ) → isStoreOf (decoded w) w ≡ true → Holds w (thresholdOf w) (siteOf w)
-unfolding isStoreOf decoded
+unfolding isStoreOfUnder decoded
 store-holds w e =
     let t = thresholdOf w in
     let whole = and-cases (leb t mostThreshold && isSite (siteOf w)) (sameWords (take (wordsUsed w) w) (layout t (siteOf w))) e in
@@ -30,7 +30,7 @@ store-holds w e =
     record { threshold = leb-true t mostThreshold (limits .0); proper = limits .1; same = same-words _ _ (whole .1) }
 
 pub holds-store : (w : List ℕ) → Holds w (thresholdOf w) (siteOf w) → isStoreOf (decoded w) w ≡ true
-unfolding isStoreOf decoded
+unfolding isStoreOfUnder decoded
 holds-store w h =
     and-make (and-make (le-leb (thresholdOf w) mostThreshold (h .threshold)) (h .proper)) (rw (h .same) (words-same (layout (thresholdOf w) (siteOf w))))
 

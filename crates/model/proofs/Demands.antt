@@ -9,4 +9,5 @@ pub mod Files
 pub mod Screen
 pub mod Planner
 pub mod Limits
+pub mod Kept
 pub mod Cases

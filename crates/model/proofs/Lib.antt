@@ -54,5 +54,7 @@ pub mod Decimals
 pub mod Screen
 pub mod StoreSize
 pub mod FileSizes
+pub mod Kept
+pub mod KeptCalls
 pub mod Components
 pub mod Demands

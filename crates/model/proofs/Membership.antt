@@ -8,6 +8,8 @@ use mathlib.Core.Bool.{Bool, true, false, cond, _&&_, _||_, false≢true, and-as
 use mathlib.Core.Option.{Option, none, some}
 use mathlib.Core.List.{List, [], _∷_, _++_, List·Memᴰ·head, List·Memᴰ·tail, List·Memᴰ·not-nil, List·Memᴰ·cases-cons, Memᴰ·append-left, Memᴰ·append-right, List·Memᴰ·append-cases}
 use lib.ListN.{length, getD}
+use lib.Dec.{eqb}
+use borrow.Author.Tests.{eqb-true}
 use Rattle.model.specs.Lists.{_∈_, filter, any, all, concatMap, addSome, filterMap}
 use Rattle.model.proofs.Booleans.{and-cases, and-make, or-cases, or-left, or-right}
 
@@ -104,6 +106,10 @@ module _ {A : Type 0} (p : A → Bool) where
           → cond b (x ∷ filter p (xs ++ m)) (filter p (xs ++ m)) ≡ cond b (x ∷ filter p xs) (filter p xs) ++ filter p m
       go true e = rw e refl
       go false e = e
+
+-- a number of a list, by computation
+pub listed : (n : ℕ) (l : List ℕ) → any (eqb n) l ≡ true → n ∈ l
+listed n l e = let (m, inside, same) = from-any (eqb n) l e in subst (λ (x : ℕ). x ∈ l) (sym (eqb-true n m same)) inside
 
 module _ {A : Type 0} (p q : A → Bool) where
   -- tests that agree on a list

@@ -17,7 +17,7 @@ use Rattle.model.specs.PlanFile.{stepNumbers}
 use Rattle.model.specs.Plan.{Plan}
 use Rattle.model.specs.Planner.{planned}
 use Rattle.model.specs.Solutions.{solutions}
-use Rattle.model.specs.Calls.{Outcome, over, unaltered, build, checked, padded, withPlan, plan, rowsOutcome, run, numberOf, valuesOf, planBytesOf}
+use Rattle.model.specs.Calls.{Outcome, over, unaltered, buildUnder, build, checked, padded, withPlan, planUnder, plan, rowsOutcome, run, numberOf, valuesOf, planBytesOf}
 use Rattle.model.specs.declared.answer.Answer.{Answer}
 use Rattle.model.specs.declared.answer.Answer.the-variants.{Rows, None, Built, Yes, No, Refused}
 use Rattle.model.specs.declared.answer.Answer.the-variants.{Plan as PlanAnswer}
@@ -35,7 +35,7 @@ module _ (memory : List ℕ) where
   Kept o = length (o .memory) ≡ length memory
 
   pub build-length : (t : ℕ) (bytes : List ℕ) → Kept (build t bytes memory)
-  unfolding build
+  unfolding buildUnder
   build-length t bytes =
       by-question Kept (unaltered memory) 1 (leb t mostThreshold) _ refl
       λ _. by-reply Kept (unaltered memory) (readSite bytes) _ (λ n e. refl)
@@ -80,7 +80,7 @@ padded-length n xs = simp (length-take, length-append, length-replicate) (omega 
 
 -- the steps' numbers, or what was lent
 pub plan-length : (words bytes lent : List ℕ) → length lent ≡ 16 → length (planBytesOf (plan words bytes) lent) ≡ 16
-unfolding plan planBytesOf
+unfolding planUnder planBytesOf
 plan-length words bytes lent h =
     by-reply (λ (p : Planned). length (planBytesOf p lent) ≡ 16) _ (checked words bytes) _ (λ n e. kept (Refused n) []) λ c e. kept PlanAnswer (planned (c .store) (c .pattern))
   where

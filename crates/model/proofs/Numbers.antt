@@ -12,7 +12,7 @@ use lib.Dec.{eqb, ltb}
 use borrow.Author.Tests.{ltb-true, ltb-false, lt-ltb, le-ltb, leb-true, ne-eqb, eqb-false, not-true}
 use Rattle.model.specs.Lists.{concatMap}
 use Rattle.model.specs.Reader.{gives, Reader, after}
-use Rattle.model.specs.Numbers.{areBytes, mostTerm, isTerm, Sized, lastGroup, lowGroup, numberWithin, numberIn, orRefused, number, numberLimit, bytesWithin, numberBytes}
+use Rattle.model.specs.Numbers.{areBytes, mostTerm, isTerm, Sized, lastGroup, lowGroup, numberWithin, numberInUnder, numberIn, orRefused, numberUnder, number, numberLimit, bytesWithin, numberBytes}
 use Rattle.model.proofs.Booleans.{and-cases, and-make, or-right}
 use Rattle.model.proofs.Membership.{all-append}
 use Rattle.model.proofs.Readers.{refused≢gives, after-gives, bytes-behind, Front}
@@ -42,7 +42,7 @@ within-written (suc k) alone m rest h a =
     (λ l. within-written k false (m / 128) rest (omega (arith, pow-suc 128 (suc k))) (rw (ne-eqb (m / 128) 0 (omega arith)) refl))
 
 pub number-written : (n m : ℕ) (rest : List ℕ) → m < numberLimit → number n (numberBytes m ++ rest) ≡ gives (m, rest)
-unfolding number numberIn numberBytes
+unfolding numberUnder numberInUnder numberBytes
 number-written n m rest h = rw (within-written _ true m rest h refl, drop-append-seam) refl
 
 pub term-fits : (t : ℕ) → isTerm t ≡ true → t < numberLimit
@@ -130,7 +130,7 @@ within-read (suc k) alone (b ∷ bs) {x} e h = go (ltb b 128) refl h (λ y f. wi
 
 pub number-read : (n : ℕ) (bytes : List ℕ) {m : ℕ} {rest : List ℕ} → areBytes bytes ≡ true → number n bytes ≡ gives (m, rest)
     → (bytes ≡ numberBytes m ++ rest) × (areBytes rest ≡ true) × (m < numberLimit)
-unfolding number numberIn numberBytes
+unfolding numberUnder numberInUnder numberBytes
 number-read n bytes {m} {rest} e h = go (numberIn bytes) refl h
   where
     go : (o : Option Sized) → numberIn bytes ≡ o → orRefused n bytes o ≡ gives (m, rest)

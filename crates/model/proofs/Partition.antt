@@ -10,7 +10,7 @@ use lib.Dec.{eqb, ltb, leb}
 use borrow.Author.Tests.{ltb-true, leb-true, eqb-true, eq-eqb, ne-eqb}
 use Rattle.model.specs.Lists.{_∈_, filter, all, concatMap, ascends}
 use Rattle.model.specs.Numbers.{isTerm}
-use Rattle.model.specs.Site.{Row, rowBefore, Table, Site, withinLimits, predicatesProper, rowsProper, isSite, mostPredicates, mostRows, rowTotal, Fact, factsOf, facts, IsFact, isDeclared}
+use Rattle.model.specs.Site.{Row, rowBefore, Table, Site, withinLimits, predicatesProper, rowsProper, isSiteUnder, isSite, mostPredicates, mostRows, rowTotal, Fact, factsOf, facts, IsFact, isDeclared}
 use Rattle.model.specs.Tables.{vp}
 use Rattle.model.proofs.Booleans.{and-cases, bool-cases, not-both, to-false}
 use Rattle.model.proofs.Membership.{from-filter, into-filter, into-any, from-any, from-all, filter-append}
@@ -35,7 +35,7 @@ pub record Proper (site : Site) : Type 0 where
   pub rows-proper : all (λ t. rowsProper (t .rows)) site ≡ true
 
 pub proper : (site : Site) → isSite site ≡ true → Proper site
-unfolding isSite
+unfolding isSiteUnder
 proper site h =
     let whole = and-cases (withinLimits site) (predicatesProper site && all (λ t. rowsProper (t .rows)) site) h in
     let limits = and-cases (leb (length site) mostPredicates) (leb (rowTotal site) mostRows) (whole .0) in

@@ -13,7 +13,7 @@ use Rattle.model.specs.Numbers.{areBytes, mostTerm, isTerm, numberBytes,
 use Rattle.model.specs.ExactFile.{FileIsExact}
 use Rattle.model.specs.Site.{Site, isDeclared}
 use Rattle.model.specs.Pattern.{Pattern, mostTriplePatterns, mostVariables, positions, variables, width, isPosition, isPredicate, isTriplePattern, areTriplePatterns, isPatternLength, isAccepted}
-use Rattle.model.specs.PatternFile.{positionOf, askPosition, askPredicate, triplePattern, patternFile, readPattern, positionNumber, positionBytes, triplePatternBytes, patternBytes}
+use Rattle.model.specs.PatternFile.{positionOf, askPositionUnder, askPosition, askPredicateUnder, askPredicate, triplePatternUnder, triplePattern, patternFileUnder, patternFile, readPatternUnder, readPattern, positionNumber, positionBytes, triplePatternBytes, patternBytes}
 use Rattle.model.specs.declared.pattern.Position.{Position}
 use Rattle.model.specs.declared.pattern.Position.the-variants.{Term, Var}
 use Rattle.model.specs.declared.pattern.TriplePattern.{TriplePattern}
@@ -49,12 +49,12 @@ predicate-fits site (Term t) e = position-fits 0 (Term t) (and-cases (isTerm t) 
 predicate-fits site (Var v) e = absurd (false≢true e)
 
 pub position-asks : (n : ℕ) (x : Position) → Asks (askPosition n x) (isPosition n x)
-unfolding askPosition
+unfolding askPositionUnder
 position-asks n (Term t) = record { as-ask = λ bytes. (_, refl) }
 position-asks n (Var v) = record { as-ask = λ bytes. (_, refl) }
 
 pub predicate-asks : (site : Site) (x : Position) → Asks (askPredicate site x) (isPredicate site x)
-unfolding askPredicate after ask
+unfolding askPredicateUnder after ask
 predicate-asks site (Term t) = record { as-ask = λ bytes. both _ _ bytes (isTerm t) (isDeclared site t) }
   where
     both : (j k : ℕ) (bytes : List ℕ) (a b : Bool) → (n : ℕ) × (after (ask j a bytes) (λ _. ask k b) ≡ ask n (a && b) bytes)
@@ -72,7 +72,7 @@ abbrev pub tripleTest : Site → Pattern → TriplePattern → Bool
 tripleTest site done q = isTriplePattern site (width done) q
 
 pub triple-reads : (site : Site) → Reads (triplePattern site) triplePatternBytes (tripleTest site)
-unfolding triplePattern after
+unfolding triplePatternUnder after
 triple-reads site = record {
   read = λ done bytes h.
       let s = number-gives _ bytes _ h in
@@ -116,7 +116,7 @@ triples-grow site = record { start = refl; snoc = triples-snoc site 0 }
 
 pub pattern-read : (site : Site) (bytes : List ℕ) {pattern : Pattern} {rest : List ℕ} → patternFile site bytes ≡ gives (pattern, rest)
     → (isAccepted site pattern ≡ true) × Front bytes (patternBytes pattern) rest
-unfolding patternFile isAccepted patternBytes
+unfolding patternFileUnder isAccepted patternBytes
 pattern-read site bytes {pattern} h =
     let n = number-gives _ bytes _ h in
     let a = ask-gives _ (isPatternLength (n .0)) _ (n .3) in
@@ -127,7 +127,7 @@ pattern-read site bytes {pattern} h =
 -- what is written is read, whatever stands behind it
 pub pattern-back : (site : Site) (pattern : Pattern) (rest : List ℕ) → isAccepted site pattern ≡ true
     → patternFile site (patternBytes pattern ++ rest) ≡ gives (pattern, rest)
-unfolding patternFile isAccepted patternBytes after ask
+unfolding patternFileUnder isAccepted patternBytes after ask
 pattern-back site pattern rest e =
     let c = and-cases (isPatternLength (length pattern)) (areTriplePatterns site 0 pattern) e in
     let b = and-cases (leb 1 (length pattern)) (leb (length pattern) mostTriplePatterns) (c .0) in
@@ -143,7 +143,7 @@ pattern-bytes pattern =
     (bytes-concatMap triplePatternBytes (λ q. bytes-concatMap positionBytes (λ x. number-bytes (positionNumber x)) (positions q)) pattern)
 
 pub pattern-file : (site : Site) → FileIsExact (readPattern site) patternBytes (isAccepted site)
-unfolding readPattern
+unfolding readPatternUnder
 pattern-file site =
     file-is-exact _ (record { read = λ _ bytes h. pattern-read site bytes h; written = λ _ pattern rest e. pattern-back site pattern rest e }) pattern-bytes
 

@@ -14,7 +14,7 @@ use Rattle.model.specs.ExactFile.{FileIsExact}
 use Rattle.model.specs.Store.{Store}
 use Rattle.model.specs.Pattern.{Pattern, mostTriplePatterns}
 use Rattle.model.specs.Plan.{Step, Plan, isPlace, mayChoose, placesOf, distinct, isStep, isProper}
-use Rattle.model.specs.PlanFile.{step, stepNumbers, readPlan, planBytes}
+use Rattle.model.specs.PlanFile.{stepUnder, step, stepNumbers, readPlanUnder, readPlan, planBytes}
 use Rattle.model.proofs.Booleans.{and-cases, and-make, bool-ext}
 use Rattle.model.proofs.Membership.{any-append}
 use Rattle.model.proofs.Growing.{Grows, all-grows, both-grow, map-grows}
@@ -67,7 +67,7 @@ module _ (store : Store) (pattern : Pattern) where
 
   module _ (few : length pattern ≤ mostTriplePatterns) where
     step-reads : Reads (step store pattern) stepBytes stepTest
-    unfolding step after ask
+    unfolding stepUnder after ask
     step-reads = record {
       read = λ done bytes h.
           let i = number-gives _ bytes _ h in
@@ -109,5 +109,5 @@ module _ (store : Store) (pattern : Pattern) where
     plan-is-bytes plan = bytes-concatMap numberBytes number-bytes (concatMap stepNumbers plan)
 
     pub plan-file : FileIsExact (readPlan store pattern) planBytes (isProper store pattern)
-    unfolding readPlan
+    unfolding readPlanUnder
     plan-file = file-is-exact _ (record { read = λ _ bytes h. plan-read bytes h; written = λ _ plan rest e. plan-back plan rest e }) plan-is-bytes

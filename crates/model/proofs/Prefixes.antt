@@ -6,15 +6,15 @@ use mathlib.Core.Path.{_≡_, refl, ap}
 use mathlib.Core.Bool.{Bool, true, false, cond, _||_, not}
 use mathlib.Core.Option.{Option, none, some}
 use mathlib.Core.List.{List, [], _∷_, _++_}
-use lib.ListN.{length, drop}
+use lib.ListN.{length}
 use lib.Seq.{drop-append-le}
 use lib.Dec.{eqb, ltb}
 use Rattle.model.specs.Reader.{refused, gives, Reader, after, ask, wholeFile, repeated}
-use Rattle.model.specs.Numbers.{Sized, lastGroup, lowGroup, numberWithin, numberIn, orRefused, number}
+use Rattle.model.specs.Numbers.{Sized, lastGroup, lowGroup, numberWithin, numberInUnder, numberIn, orRefused, numberUnder, number}
 use Rattle.model.specs.Site.{Row, Site}
-use Rattle.model.specs.SiteFile.{Declaration, declaration, row, tables, siteFile, readSite}
+use Rattle.model.specs.SiteFile.{Declaration, declarationUnder, declaration, rowUnder, row, tablesUnder, tables, siteFileUnder, siteFile, readSiteUnder, readSite}
 use Rattle.model.specs.Pattern.{Pattern}
-use Rattle.model.specs.PatternFile.{askPosition, askPredicate, triplePattern, patternFile, readPattern}
+use Rattle.model.specs.PatternFile.{askPositionUnder, askPosition, askPredicateUnder, askPredicate, triplePatternUnder, triplePattern, patternFileUnder, patternFile, readPatternUnder, readPattern}
 use Rattle.model.specs.declared.pattern.Position.{Position}
 use Rattle.model.specs.declared.pattern.Position.the-variants.{Term, Var}
 use Rattle.model.proofs.Readers.{refused≢gives, after-gives, whole-gives}
@@ -86,7 +86,7 @@ within-more (suc k) alone (b ∷ bs) more {x} h = go (ltb b 128) h (λ y e. with
     go false e others = low (numberWithin k false bs) others e
 
 steady-number : (n : ℕ) → Steady (number n)
-unfolding number numberIn
+unfolding numberUnder numberInUnder
 steady-number n = record { with-more = λ bytes more h. go bytes more (numberIn bytes) refl h }
   where
     go : (bytes more : List ℕ) (o : Option Sized) → numberIn bytes ≡ o → {y : ℕ × List ℕ} → orRefused n bytes o ≡ gives y
@@ -99,47 +99,47 @@ steady-number n = record { with-more = λ bytes more h. go bytes more (numberIn 
 -- ---- the files
 
 steady-declaration : (done : List Declaration) → Steady (declaration done)
-unfolding declaration
+unfolding declarationUnder
 steady-declaration done =
     steady-then (steady-number 2) λ p. steady-then (steady-ask 4 _) λ _.
     steady-then (steady-number 2) λ n. steady-then (steady-ask 5 _) λ _. steady-return (p, n)
 
 steady-row : (done : List Row) → Steady (row done)
-unfolding row
+unfolding rowUnder
 steady-row done =
     steady-then (steady-number 2) λ s. steady-then (steady-ask 6 _) λ _.
     steady-then (steady-number 2) λ o. steady-then (steady-ask 6 _) λ _. steady-then (steady-ask 7 _) λ _. steady-return (s, o)
 
 steady-tables : (ds : List Declaration) (done : Site) → Steady (tables ds done)
-unfolding tables
+unfolding tablesUnder
 steady-tables [] done = steady-return done
 steady-tables (d ∷ ds) done = steady-then (steady-repeated steady-row (d .1) []) λ rows. steady-tables ds _
 
 steady-site : Steady siteFile
-unfolding siteFile
+unfolding siteFileUnder
 steady-site =
     steady-then (steady-number 2) λ p. steady-then (steady-ask 3 _) λ _.
     steady-then (steady-repeated steady-declaration p []) λ declared. steady-tables declared []
 
 steady-position : (n : ℕ) (x : Position) → Steady (askPosition n x)
-unfolding askPosition
+unfolding askPositionUnder
 steady-position n (Term t) = steady-ask 15 _
 steady-position n (Var v) = steady-ask 16 _
 
 steady-predicate : (site : Site) (x : Position) → Steady (askPredicate site x)
-unfolding askPredicate
+unfolding askPredicateUnder
 steady-predicate site (Term t) = steady-then (steady-ask 13 _) λ _. steady-ask 14 _
 steady-predicate site (Var v) = steady-ask 13 _
 
 steady-triple-pattern : (site : Site) (done : Pattern) → Steady (triplePattern site done)
-unfolding triplePattern
+unfolding triplePatternUnder
 steady-triple-pattern site done =
     steady-then (steady-number 11) λ s. steady-then (steady-position _ _) λ _.
     steady-then (steady-number 11) λ p. steady-then (steady-predicate site _) λ _.
     steady-then (steady-number 11) λ o. steady-then (steady-position _ _) λ _. steady-return _
 
 steady-pattern : (site : Site) → Steady (patternFile site)
-unfolding patternFile
+unfolding patternFileUnder
 steady-pattern site =
     steady-then (steady-number 11) λ n. steady-then (steady-ask 12 _) λ _. steady-repeated (steady-triple-pattern site) n []
 
@@ -156,10 +156,10 @@ no-prefix {A} n reader s front b rest x y whole short =
     let z : _≡_ {A = ℕ} 0 1 = cc in omega arith
 
 pub no-site-prefix : (front : List ℕ) (b : ℕ) (rest : List ℕ) (site other : Site) → readSite (front ++ b ∷ rest) ≡ gives site → readSite front ≡ gives other → ⊥
-unfolding readSite
+unfolding readSiteUnder
 no-site-prefix = no-prefix 8 siteFile steady-site
 
 pub no-pattern-prefix : (site : Site) (front : List ℕ) (b : ℕ) (rest : List ℕ) (pattern other : Pattern)
     → readPattern site (front ++ b ∷ rest) ≡ gives pattern → readPattern site front ≡ gives other → ⊥
-unfolding readPattern
+unfolding readPatternUnder
 no-pattern-prefix site = no-prefix 17 (patternFile site) (steady-pattern site)

@@ -9,7 +9,7 @@ use mathlib.Core.List.{List, [], _∷_, _++_, append-nil}
 use lib.ListN.{length, drop}
 use lib.Seq.{append-snoc}
 use Rattle.model.specs.Reader.{Reply, refused, gives, Reader, after, ask, allRead, wholeFile, repeated}
-use Rattle.model.specs.Numbers.{Sized, numberIn, orRefused, number}
+use Rattle.model.specs.Numbers.{Sized, numberIn, orRefused, numberUnder, number}
 use Rattle.model.specs.Questions.{NoNumber, Begins, FirstRefused}
 use Rattle.model.proofs.Readers.{refused≢gives, Asks, PartRead, next-refused}
 
@@ -23,12 +23,12 @@ same-number {m} {n} h = let e : m ≡ n = cc in ap refused e
 
 -- the number stands there
 pub begins : (n : ℕ) {bytes rest : List ℕ} {v : ℕ} → Begins bytes v rest → number n bytes ≡ gives (v, rest)
-unfolding number
+unfolding numberUnder
 begins n b = rw (b .front, b .behind) refl
 
 -- it does not
 pub no-number : (n : ℕ) (bytes : List ℕ) → NoNumber bytes → number n bytes ≡ refused n
-unfolding number
+unfolding numberUnder
 no-number n bytes h = rw h refl
 
 -- a question behind which nothing is read
@@ -48,7 +48,7 @@ module _ (P : ℕ → Type 0) {B : Type 0} {n : ℕ} where
   -- a number's own form is questioned first
   pub by-number : (own : ℕ) (bytes : List ℕ) (next : ℕ → Reader B) → after (number own bytes) next ≡ refused n
       → (NoNumber bytes → P own) → ((v : ℕ) (rest : List ℕ) → Begins bytes v rest → next v rest ≡ refused n → P n) → P n
-  unfolding after number
+  unfolding after numberUnder
   by-number own bytes next h f g = go (numberIn bytes) refl h
     where
       go : (x : Option Sized) → numberIn bytes ≡ x → after (orRefused own bytes x) next ≡ refused n → P n

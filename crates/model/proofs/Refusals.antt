@@ -9,14 +9,14 @@ use lib.ListN.{length}
 use Rattle.model.specs.Answers.{Between}
 use Rattle.model.specs.Lists.{isEmpty}
 use Rattle.model.specs.Reader.{Reply, refused, gives, Reader, after, ask, allRead, wholeFile, repeated}
-use Rattle.model.specs.Numbers.{Sized, numberIn, number, orRefused}
+use Rattle.model.specs.Numbers.{Sized, numberIn, numberUnder, number, orRefused}
 use Rattle.model.specs.Site.{Row, Site}
-use Rattle.model.specs.SiteFile.{Declaration, declaration, row, tables, siteFile, readSite}
+use Rattle.model.specs.SiteFile.{Declaration, declarationUnder, declaration, rowUnder, row, tablesUnder, tables, siteFileUnder, siteFile, readSiteUnder, readSite}
 use Rattle.model.specs.Store.{Store}
 use Rattle.model.specs.Pattern.{Pattern}
-use Rattle.model.specs.PatternFile.{askPosition, askPredicate, triplePattern, patternFile, readPattern}
+use Rattle.model.specs.PatternFile.{askPositionUnder, askPosition, askPredicateUnder, askPredicate, triplePatternUnder, triplePattern, patternFileUnder, patternFile, readPatternUnder, readPattern}
 use Rattle.model.specs.Plan.{Plan}
-use Rattle.model.specs.PlanFile.{step, readPlan}
+use Rattle.model.specs.PlanFile.{stepUnder, step, readPlanUnder, readPlan}
 use Rattle.model.specs.declared.pattern.Position.{Position}
 use Rattle.model.specs.declared.pattern.Position.the-variants.{Term, Var}
 
@@ -46,7 +46,7 @@ module _ {low high : ℕ} where
   ask-refuses n false bytes h = refuse n h
 
   number-refuses : (n : ℕ) (bytes : List ℕ) → Between low high n → Refuses low high (number n bytes)
-  unfolding number
+  unfolding numberUnder
   number-refuses n bytes h = go (numberIn bytes)
     where
       go : (x : Option Sized) → Refuses low high (orRefused n bytes x)
@@ -82,24 +82,24 @@ module _ {low high : ℕ} where
 -- ---- the site file: 2 to 8
 
 declaration-refuses : (done : List Declaration) (bytes : List ℕ) → Refuses 2 8 (declaration done bytes)
-unfolding declaration
+unfolding declarationUnder
 declaration-refuses done bytes =
     number-asked _ _ _ bytes (omega arith) (omega arith) λ p rest. number-asked _ _ _ rest (omega arith) (omega arith) λ n rest. gave
 
 row-refuses : (done : List Row) (bytes : List ℕ) → Refuses 2 8 (row done bytes)
-unfolding row
+unfolding rowUnder
 row-refuses done bytes =
     number-asked _ _ _ bytes (omega arith) (omega arith)
     λ s rest. number-asked _ _ _ rest (omega arith) (omega arith) λ o rest. then-read (ask-refuses _ _ rest (omega arith)) λ _ rest. gave
 
 tables-refuse : (ds : List Declaration) (done : Site) (bytes : List ℕ) → Refuses 2 8 (tables ds done bytes)
-unfolding tables
+unfolding tablesUnder
 tables-refuse [] done bytes = gave
 tables-refuse (d ∷ ds) done bytes =
     then-read (repeatedly row row-refuses (d .1) [] bytes) λ rows rest. tables-refuse ds (done ++ record { predicate = d .0; rows = rows } ∷ []) rest
 
 pub site-refuses : (bytes : List ℕ) → Refuses 2 8 (readSite bytes)
-unfolding readSite siteFile
+unfolding readSiteUnder siteFileUnder
 site-refuses bytes =
     whole _ siteFile bytes (omega arith)
     (number-asked _ _ _ bytes (omega arith) (omega arith)
@@ -108,17 +108,17 @@ site-refuses bytes =
 -- ---- the pattern file: 11 to 17
 
 position-refuses : (n : ℕ) (x : Position) (bytes : List ℕ) → Refuses 11 17 (askPosition n x bytes)
-unfolding askPosition
+unfolding askPositionUnder
 position-refuses n (Term t) bytes = ask-refuses _ _ bytes (omega arith)
 position-refuses n (Var v) bytes = ask-refuses _ _ bytes (omega arith)
 
 predicate-refuses : (site : Site) (x : Position) (bytes : List ℕ) → Refuses 11 17 (askPredicate site x bytes)
-unfolding askPredicate
+unfolding askPredicateUnder
 predicate-refuses site (Term t) bytes = then-read (ask-refuses _ _ bytes (omega arith)) λ _ rest. ask-refuses _ _ rest (omega arith)
 predicate-refuses site (Var v) bytes = ask-refuses _ _ bytes (omega arith)
 
 triple-refuses : (site : Site) (done : Pattern) (bytes : List ℕ) → Refuses 11 17 (triplePattern site done bytes)
-unfolding triplePattern
+unfolding triplePatternUnder
 triple-refuses site done bytes =
     then-read (number-refuses _ bytes (omega arith))
     λ s rest. then-read (position-refuses _ _ rest)
@@ -127,7 +127,7 @@ triple-refuses site done bytes =
     λ _ rest. then-read (number-refuses _ rest (omega arith)) λ o rest. then-read (position-refuses _ _ rest) λ _ rest. gave
 
 pub pattern-refuses : (site : Site) (bytes : List ℕ) → Refuses 11 17 (readPattern site bytes)
-unfolding readPattern patternFile
+unfolding readPatternUnder patternFileUnder
 pattern-refuses site bytes =
     whole _ (patternFile site) bytes (omega arith)
     (number-asked _ _ _ bytes (omega arith) (omega arith) λ n rest. repeatedly (triplePattern site) (triple-refuses site) n [] rest)
@@ -135,12 +135,12 @@ pattern-refuses site bytes =
 -- ---- the plan file: 18 to 20
 
 step-refuses : (store : Store) (pattern : Pattern) (done : Plan) (bytes : List ℕ) → Refuses 18 20 (step store pattern done bytes)
-unfolding step
+unfolding stepUnder
 step-refuses store pattern done bytes =
     number-asked _ _ _ bytes (omega arith) (omega arith) λ i rest. number-asked _ _ _ rest (omega arith) (omega arith) λ c rest. gave
 
 pub plan-refuses : (store : Store) (pattern : Pattern) (bytes : List ℕ) → Refuses 18 20 (readPlan store pattern bytes)
-unfolding readPlan
+unfolding readPlanUnder
 plan-refuses store pattern bytes =
     whole _ (repeated (step store pattern) (length pattern) []) bytes (omega arith)
     (repeatedly (step store pattern) (step-refuses store pattern) (length pattern) [] bytes)

@@ -17,7 +17,7 @@ use Rattle.model.specs.PatternFile.{readPattern}
 use Rattle.model.specs.Plan.{Plan}
 use Rattle.model.specs.PlanFile.{readPlan}
 use Rattle.model.specs.Solutions.{solutions}
-use Rattle.model.specs.Calls.{Outcome, either, question, unaltered, build, Check, checkOf, checked, givenPlan, plan, rowsOutcome, run, yesOrNo, whether}
+use Rattle.model.specs.Calls.{Outcome, either, question, unaltered, buildUnder, build, Check, checkOf, checkedUnder, checked, givenPlanUnder, givenPlan, planUnder, plan, rowsOutcome, runUnder, run, yesOrNo, whetherUnder, whether}
 use Rattle.model.specs.Questions.{BuildRefused, CheckRefused, GivenPlanRefused, RunRefused}
 use Rattle.model.specs.Questions.BuildRefused.{threshold-too-large, site-refused, store-too-small}
 use Rattle.model.specs.Questions.CheckRefused.{no-store, pattern-refused}
@@ -62,7 +62,7 @@ module _ (P : ℕ → Type 0) {n : ℕ} where
 
 module _ (t : ℕ) (bytes memory : List ℕ) where
   pub build-exactly : (n : ℕ) → (build t bytes memory .answer ≡ Refused n) ↔ BuildRefused t bytes memory n
-  unfolding build either
+  unfolding buildUnder either
   build-exactly n = (to, from)
     where
       P : ℕ → Type 0
@@ -95,7 +95,7 @@ module _ (words bytes : List ℕ) where
       ⊎ ((store : Store) × Holds words (store .threshold) (store .site) × (checked words bytes ≡ patternReply store))
 
   store-asked : StoreAsked
-  unfolding checked either
+  unfolding checkedUnder either
   store-asked = go (storeOf words) refl
     where
       go : (x : Option Store) → storeOf words ≡ x → StoreAsked
@@ -120,7 +120,7 @@ module _ (words bytes : List ℕ) where
       go (inr x) = read (x .0) (x .1) (readPattern (x .0 .site) bytes) refl (sym (x .2) ∙ h)
 
   check-exactly : (n : ℕ) → (checked words bytes ≡ refused n) ↔ CheckRefused words bytes n
-  unfolding checked either
+  unfolding checkedUnder either
   check-exactly n = ((λ h. to store-asked h), from)
     where
       at-pattern : (store : Store) → Holds words (store .threshold) (store .site) → (x : Reply Pattern) → readPattern (store .site) bytes ≡ x
@@ -137,7 +137,7 @@ module _ (words bytes : List ℕ) where
       from (pattern-refused {t} {n} {site} holds r) = rw (store-complete words t site holds, pattern-exactly site bytes n .1 r) refl
 
   pub plan-call-exactly : (n : ℕ) → (plan words bytes .answer ≡ Refused n) ↔ CheckRefused words bytes n
-  unfolding plan either
+  unfolding planUnder either
   plan-call-exactly n = (
     (λ h. by-reply (λ (p : Planned). p .answer ≡ Refused n → CheckRefused words bytes n) _ (checked words bytes) _
         (λ m e h. this-number (CheckRefused words bytes) h (check-exactly m .0 e)) (λ check e h. let z : _≡_ {A = ℕ} 0 1 = cc in absurd (omega arith)) h),
@@ -159,7 +159,7 @@ module _ (words bytes steps : List ℕ) where
   planReply check = either refused (readPlan (check .store) (check .pattern) steps) λ _. gives check
 
   pub given-gives : (c : Check) → givenPlan words bytes steps ≡ gives c → AcceptedPlan words bytes steps c
-  unfolding givenPlan either
+  unfolding givenPlanUnder either
   given-gives c h = at-check (checked words bytes) refl h
     where
       at-plan : (k : Check) → checked words bytes ≡ gives k → (x : Reply Plan) → readPlan (k .store) (k .pattern) steps ≡ x
@@ -175,7 +175,7 @@ module _ (words bytes steps : List ℕ) where
       at-check (gives k) e h = at-plan k e (readPlan (k .store) (k .pattern) steps) refl h
 
   pub given-exactly : (n : ℕ) → (givenPlan words bytes steps ≡ refused n) ↔ GivenPlanRefused words bytes steps n
-  unfolding givenPlan either
+  unfolding givenPlanUnder either
   given-exactly n = ((λ h. at-check (checked words bytes) refl h), from)
     where
       at-plan : (k : Check) → checked words bytes ≡ gives k → (x : Reply Plan) → readPlan (k .store) (k .pattern) steps ≡ x
@@ -202,7 +202,7 @@ told-not-refused [] h = let z : _≡_ {A = ℕ} 0 1 = cc in absurd (omega arith)
 told-not-refused (r ∷ rs) h = let z : _≡_ {A = ℕ} 0 1 = cc in absurd (omega arith)
 
 pub whether-exactly : (words bytes steps : List ℕ) (n : ℕ) → (whether words bytes steps ≡ Refused n) ↔ GivenPlanRefused words bytes steps n
-unfolding whether either
+unfolding whetherUnder either
 whether-exactly words bytes steps n = (
   (λ h. by-reply (λ answer. answer ≡ Refused n → GivenPlanRefused words bytes steps n) Refused (givenPlan words bytes steps) _
       (λ m e h. this-number (GivenPlanRefused words bytes steps) h (given-exactly words bytes steps m .0 e))
@@ -225,7 +225,7 @@ rows-exactly v (r ∷ rs) memory n = (
 
 module _ (words bytes steps memory : List ℕ) where
   pub run-exactly : (n : ℕ) → (run words bytes steps memory .answer ≡ Refused n) ↔ RunRefused words bytes steps memory n
-  unfolding run either
+  unfolding runUnder either
   run-exactly n = (to, from)
     where
       P : ℕ → Type 0

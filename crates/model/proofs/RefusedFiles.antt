@@ -10,12 +10,12 @@ use lib.Dec.{leb}
 use borrow.Author.Tests.{leb-true, leb-false, le-leb, lt-leb}
 use Rattle.model.specs.Reader.{Reply, refused, gives, Reader, after, ask, repeated}
 use Rattle.model.specs.Site.{Row, Site, mostPredicates}
-use Rattle.model.specs.SiteFile.{Declaration, declaration, row, tables, siteFile, readSite}
+use Rattle.model.specs.SiteFile.{Declaration, declaration, row, tablesUnder, tables, siteFileUnder, siteFile, readSiteUnder, readSite}
 use Rattle.model.specs.Store.{Store}
 use Rattle.model.specs.Pattern.{Pattern, mostTriplePatterns, isPatternLength}
-use Rattle.model.specs.PatternFile.{triplePattern, patternFile, readPattern}
+use Rattle.model.specs.PatternFile.{triplePattern, patternFileUnder, patternFile, readPatternUnder, readPattern}
 use Rattle.model.specs.Plan.{Plan}
-use Rattle.model.specs.PlanFile.{step, readPlan}
+use Rattle.model.specs.PlanFile.{step, readPlanUnder, readPlan}
 use Rattle.model.specs.Questions.{FirstRefused, DeclarationRefused, RowRefused, TableRefused, SiteRefused, TripleRefused, PatternRefused, StepRefused, PlanRefused}
 use Rattle.model.specs.Questions.SiteRefused.{predicates-not-whole, predicates-too-many, declaration-refused, row-refused, site-not-ended}
 use Rattle.model.specs.Questions.PatternRefused.{length-not-whole, length-refused, triple-refused, pattern-not-ended}
@@ -32,7 +32,7 @@ rows-exactly : (k : ℕ) (bytes : List ℕ) (n : ℕ) → (repeated row k [] byt
 rows-exactly = first-refused row RowRefused row-exactly
 
 tables-split : (before more : List Declaration) (done : Site) (bytes : List ℕ) → tables (before ++ more) done bytes ≡ after (tables before done bytes) (tables more)
-unfolding tables after
+unfolding tablesUnder after
 tables-split [] more done bytes = refl
 tables-split (d ∷ ds) more done bytes = go (repeated row (d .1) [] bytes) (λ done rest. tables-split ds more done rest)
   where
@@ -51,7 +51,7 @@ NextTable declared done bytes n =
     × (site : Site) × (rest : List ℕ) × (tables before done bytes ≡ gives (site, rest)) × FirstRefused row RowRefused (this .1) rest n
 
 next-table : (declared : List Declaration) (done : Site) (bytes : List ℕ) {n : ℕ} → tables declared done bytes ≡ refused n → NextTable declared done bytes n
-unfolding tables after
+unfolding tablesUnder after
 next-table [] done bytes h = gives≢refused h
 next-table (d ∷ ds) done bytes {n} h =
     by-first (NextTable (d ∷ ds) done bytes) (repeated row (d .1) [] bytes) _ h
@@ -59,7 +59,7 @@ next-table (d ∷ ds) done bytes {n} h =
     λ rows rest e h. let r = next-table ds _ rest h in (d ∷ r .0, r .1, r .2, ap (λ l. d ∷ l) (r .3), r .4, r .5, rw e (r .6), r .7)
 
 tables-exactly : (declared : List Declaration) (bytes : List ℕ) (n : ℕ) → (tables declared [] bytes ≡ refused n) ↔ TableRefused declared bytes n
-unfolding tables after
+unfolding tablesUnder after
 tables-exactly declared bytes n = (
   (λ h. let r = next-table declared [] bytes h in
       record { before = r .0; this = r .1; later = r .2; split = r .3; done = r .4; rest = r .5; read = r .6; refusal = r .7 }),
@@ -74,7 +74,7 @@ declarations-exactly = first-refused declaration DeclarationRefused declaration-
 
 module _ (bytes : List ℕ) where
   pub site-exactly : (n : ℕ) → (readSite bytes ≡ refused n) ↔ SiteRefused bytes n
-  unfolding readSite siteFile after ask
+  unfolding readSiteUnder siteFileUnder after ask
   site-exactly n = ((λ h. by-file _ siteFile bytes P h to (λ site b rest e. site-not-ended e)), from)
     where
       P : ℕ → Type 0
@@ -121,7 +121,7 @@ module _ (site : Site) where
   triples-exactly = first-refused (triplePattern site) (TripleRefused site) (triple-exactly site)
 
   pub pattern-exactly : (bytes : List ℕ) (n : ℕ) → (readPattern site bytes ≡ refused n) ↔ PatternRefused site bytes n
-  unfolding readPattern patternFile after ask
+  unfolding readPatternUnder patternFileUnder after ask
   pattern-exactly bytes n = ((λ h. by-file _ (patternFile site) bytes P h to (λ pattern b rest e. pattern-not-ended e)), from)
     where
       P : ℕ → Type 0
@@ -144,7 +144,7 @@ module _ (site : Site) where
 
 module _ (store : Store) (pattern : Pattern) where
   pub plan-exactly : (bytes : List ℕ) (n : ℕ) → (readPlan store pattern bytes ≡ refused n) ↔ PlanRefused store pattern bytes n
-  unfolding readPlan
+  unfolding readPlanUnder
   plan-exactly bytes n = ((λ h. by-file _ steps bytes (PlanRefused store pattern bytes) h (λ e. step-refused (exactly n .0 e)) (λ plan b rest e. plan-not-ended e)), from)
     where
       steps : Reader Plan

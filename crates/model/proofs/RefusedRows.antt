@@ -11,7 +11,7 @@ use Rattle.model.specs.Lists.{aboveLast}
 use Rattle.model.specs.Reader.{refused, gives, after, ask}
 use Rattle.model.specs.Numbers.{mostTerm, isTerm}
 use Rattle.model.specs.Site.{Row, rowBefore, mostRows}
-use Rattle.model.specs.SiteFile.{Declaration, declaredTerms, declaredTotal, declaration, row}
+use Rattle.model.specs.SiteFile.{Declaration, declaredTerms, declaredTotal, declarationUnder, declaration, rowUnder, row}
 use Rattle.model.specs.Questions.{IsLast, PredicateIsAbove, PredicateNotAbove, DeclarationRefused, RowNotAbove, RowRefused}
 use Rattle.model.specs.Questions.DeclarationRefused.{predicate-not-whole, predicate-not-above, count-not-whole, total-too-large}
 use Rattle.model.specs.Questions.RowRefused.{subject-not-whole, subject-no-term, object-not-whole, object-no-term, row-not-above}
@@ -65,7 +65,7 @@ module _ (done : List Declaration) where
 
   module _ (bytes : List ℕ) where
     pub declaration-exactly : (n : ℕ) → (declaration done bytes ≡ refused n) ↔ DeclarationRefused done bytes n
-    unfolding declaration after ask
+    unfolding declarationUnder after ask
     declaration-exactly n = (to, from)
       where
         P : ℕ → Type 0
@@ -113,7 +113,7 @@ module _ (done : List Row) where
 
   module _ (bytes : List ℕ) where
     pub row-exactly : (n : ℕ) → (row done bytes ≡ refused n) ↔ RowRefused done bytes n
-    unfolding row after ask
+    unfolding rowUnder after ask
     row-exactly n = (to, from)
       where
         P : ℕ → Type 0

@@ -12,7 +12,7 @@ use Rattle.model.specs.Reader.{refused, gives, after, ask}
 use Rattle.model.specs.Store.{Store}
 use Rattle.model.specs.Pattern.{Pattern}
 use Rattle.model.specs.Plan.{Plan, placesOf, isPlace}
-use Rattle.model.specs.PlanFile.{step}
+use Rattle.model.specs.PlanFile.{stepUnder, step}
 use Rattle.model.specs.Questions.{PlaceIsFree, PlaceNotFree, StepRefused}
 use Rattle.model.specs.Questions.StepRefused.{place-not-whole, place-not-free, choice-not-whole, may-not-choose}
 use Rattle.model.proofs.Booleans.{and-cases, and-make, not-both, to-false, and-fails, left-fails, right-fails}
@@ -53,7 +53,7 @@ module _ (pattern : Pattern) (done : Plan) (i : ℕ) where
 
 module _ (store : Store) (pattern : Pattern) (done : Plan) (bytes : List ℕ) where
   pub step-exactly : (n : ℕ) → (step store pattern done bytes ≡ refused n) ↔ StepRefused store pattern done bytes n
-  unfolding step after ask
+  unfolding stepUnder after ask
   step-exactly n = (to, from)
     where
       P : ℕ → Type 0

@@ -10,7 +10,7 @@ use Rattle.model.specs.Reader.{refused, gives, after, ask}
 use Rattle.model.specs.Numbers.{mostTerm, isTerm}
 use Rattle.model.specs.Site.{Site, isDeclared}
 use Rattle.model.specs.Pattern.{Pattern, mostVariables, variables, variablesWith, width, isPosition, isPredicate}
-use Rattle.model.specs.PatternFile.{positionOf, askPosition, askPredicate, triplePattern, positionNumber}
+use Rattle.model.specs.PatternFile.{positionOf, askPositionUnder, askPosition, askPredicateUnder, askPredicate, triplePatternUnder, triplePattern, positionNumber}
 use Rattle.model.specs.Questions.{PositionPasses, PositionRefused, IsDeclared, PredicatePasses, PredicateRefused, TripleRefused}
 use Rattle.model.specs.Questions.PositionPasses.{is-term, is-variable}
 use Rattle.model.specs.Questions.PositionRefused.{no-term, out-of-range, out-of-order}
@@ -43,7 +43,7 @@ module _ (k x : ℕ) where
       from (is-variable v e l m) = rw (position-of (Var v) e) (and-make (lt-ltb v mostVariables l) (le-leb v k m))
 
   position-exactly : (bytes : List ℕ) (n : ℕ) → (askPosition k (positionOf x) bytes ≡ refused n) ↔ PositionRefused k x n
-  unfolding askPosition ask
+  unfolding askPositionUnder ask
   position-exactly bytes n = ((λ h. to (positionOf x) (sym (position-number x)) h), from)
     where
       to : (position : Position) → x ≡ positionNumber position → askPosition k position bytes ≡ refused n → PositionRefused k x n
@@ -80,7 +80,7 @@ module _ (site : Site) where
         from (t, e, l, d) = rw (position-of (Term t) e) (and-make (le-leb t mostTerm l) (declared-exactly t .1 d))
 
     predicate-exactly : (bytes : List ℕ) (n : ℕ) → (askPredicate site (positionOf x) bytes ≡ refused n) ↔ PredicateRefused site x n
-    unfolding askPredicate after ask
+    unfolding askPredicateUnder after ask
     predicate-exactly bytes n = ((λ h. to (positionOf x) (sym (position-number x)) h), from)
       where
         P : ℕ → Type 0
@@ -107,7 +107,7 @@ module _ (site : Site) where
 
   module _ (done : Pattern) (bytes : List ℕ) where
     pub triple-exactly : (n : ℕ) → (triplePattern site done bytes ≡ refused n) ↔ TripleRefused site done bytes n
-    unfolding triplePattern after
+    unfolding triplePatternUnder after
     triple-exactly n = (to, from)
       where
         P : ℕ → Type 0

@@ -9,14 +9,14 @@ use lib.Seq.{take-at, drop-at}
 use borrow.Author.Tests.{le-leb, lt-leb}
 use Rattle.model.specs.Lists.{_∈_, concatMap, countUp}
 use Rattle.model.specs.Reader.{gives, after, wholeFile}
-use Rattle.model.specs.Numbers.{areBytes, numberWithin, numberIn, number}
+use Rattle.model.specs.Numbers.{areBytes, numberWithin, numberInUnder, numberUnder}
 use Rattle.model.specs.Site.{Site}
-use Rattle.model.specs.SiteFile.{siteFile, readSite}
+use Rattle.model.specs.SiteFile.{siteFileUnder, readSiteUnder, readSite}
 use Rattle.model.specs.Store.{layout}
 use Rattle.model.specs.Pattern.{Pattern, width}
-use Rattle.model.specs.PatternFile.{patternFile, readPattern}
+use Rattle.model.specs.PatternFile.{patternFileUnder, readPatternUnder, readPattern}
 use Rattle.model.specs.Solutions.{IsSolution, solutions}
-use Rattle.model.specs.Calls.{Outcome, either, over, build, rowsOutcome}
+use Rattle.model.specs.Calls.{Outcome, either, over, buildUnder, rowsOutcome}
 use Rattle.model.specs.Chain.{chainThreshold, chainStoreWords, chainRowWords, isRefused, chain, NoMatch}
 use Rattle.model.specs.Text.{rowLine, rowsText, noneText, refusedText, firstLine, rowLines, printed, screen}
 use Rattle.model.specs.declared.answer.Answer.{Answer}
@@ -138,11 +138,11 @@ module _ (file check : List ℕ) (site : Site) (pattern : Pattern) (whole : read
 
 -- a site that was not read: no byte is taken of it
 pub screen-absent : (check : List ℕ) → screen [] check ≡ firstLine (Refused 2)
-unfolding screen chain isRefused build either readSite wholeFile siteFile after number numberIn numberWithin printed rowLines
+unfolding screen chain isRefused buildUnder either readSiteUnder wholeFile siteFileUnder after numberUnder numberInUnder numberWithin printed rowLines
 screen-absent check = append-nil (firstLine (Refused 2))
 
 -- nor of the check
 pub screen-absent-check : (file : List ℕ) (site : Site) → readSite file ≡ gives site → length (layout chainThreshold site) ≤ chainStoreWords
     → screen file [] ≡ firstLine (Refused 11)
-unfolding screen readPattern wholeFile patternFile after number numberIn numberWithin printed rowLines
+unfolding screen readPatternUnder wholeFile patternFileUnder after numberUnder numberInUnder numberWithin printed rowLines
 screen-absent-check file site whole fits = ap shown (chain-plan-refused file [] lent site whole fits 11 refl) ∙ append-nil (firstLine (Refused 11))

@@ -12,8 +12,8 @@ use Rattle.model.specs.Lists.{all, concatMap, sum, ascends, aboveLast}
 use Rattle.model.specs.Reader.{gives, after, ask, repeated}
 use Rattle.model.specs.Numbers.{areBytes, isTerm, numberBytes}
 use Rattle.model.specs.ExactFile.{FileIsExact}
-use Rattle.model.specs.Site.{Row, rowBefore, Table, Site, mostPredicates, mostRows, rowTotal, predicatesProper, rowsProper, isSite}
-use Rattle.model.specs.SiteFile.{Declaration, declaredTerms, declaredTotal, declaredProper, declaration, row, tables, siteFile, readSite, declarationBytes, rowBytes, declarationOf, siteBytes, declarations}
+use Rattle.model.specs.Site.{Row, rowBefore, Table, Site, mostPredicates, mostRows, rowTotal, predicatesProper, rowsProper, isSiteUnder, isSite}
+use Rattle.model.specs.SiteFile.{Declaration, declaredTerms, declaredTotal, declaredProper, declarationUnder, declaration, rowUnder, row, tablesUnder, tables, siteFileUnder, siteFile, readSiteUnder, readSite, declarationBytes, rowBytes, declarationOf, siteBytes, declarations}
 use Rattle.model.proofs.Booleans.{and-cases, and-make}
 use Rattle.model.proofs.Growing.{Grows, all-grows, ascends-grows, both-grow, map-grows, sum-grows}
 use Rattle.model.proofs.Readers.{after-gives, ask-gives, Front, front-none, front-then, Reads, returned, repeated-read, repeated-written, file-is-exact}
@@ -40,7 +40,7 @@ pub rows-grow : Grows rowsProper rowTest
 rows-grow = both-grow (all-grows (λ r. isTerm (r .0) && isTerm (r .1))) (ascends-grows rowBefore)
 
 pub row-reads : Reads row rowBytes rowTest
-unfolding row after ask
+unfolding rowUnder after ask
 row-reads = record {
   read = λ done bytes h.
       let s = number-gives _ bytes _ h in
@@ -68,7 +68,7 @@ pub declared-grow : Grows declaredProper declarationTest
 declared-grow = both-grow (map-grows (λ d. d .0) (both-grow (all-grows isTerm) (ascends-grows ltb))) (sum-grows (λ d. d .1) mostRows)
 
 pub declaration-reads : Reads declaration declarationBytes declarationTest
-unfolding declaration after ask
+unfolding declarationUnder after ask
 declaration-reads = record {
   read = λ done bytes h.
       let p = number-gives _ bytes _ h in
@@ -98,7 +98,7 @@ record TablesRead (ds : List Declaration) (done : Site) (bytes : List ℕ) (y : 
   front : Front bytes (concatMap tableBytes tables-behind) (y .1)
 
 tables-read : (ds : List Declaration) (done : Site) (bytes : List ℕ) {y : Site × List ℕ} → tables ds done bytes ≡ gives y → TablesRead ds done bytes y
-unfolding tables
+unfolding tablesUnder
 tables-read [] done bytes {y} h =
     let e : (done, bytes) ≡ y = cc in
     rw (← e) (record { tables-behind = []; behind = sym (append-nil done); declared = refl; proper = refl; front = front-none })
@@ -124,7 +124,7 @@ all-tables-read ds bytes h =
 
 tables-written : (more done : Site) (rest : List ℕ) → all (λ t. rowsProper (t .rows)) more ≡ true
     → tables (declarations more) done (concatMap tableBytes more ++ rest) ≡ gives (done ++ more, rest)
-unfolding tables after
+unfolding tablesUnder after
 tables-written [] done rest g = rw append-nil refl
 tables-written (t ∷ more) done rest g =
     let c = and-cases (rowsProper (t .rows)) (all (λ t. rowsProper (t .rows)) more) g in
@@ -139,7 +139,7 @@ declared-site site = rw (map-map, all-map, sum-map) refl
 
 pub site-read : (bytes : List ℕ) {site : Site} {rest : List ℕ} → siteFile bytes ≡ gives (site, rest)
     → (isSite site ≡ true) × Front bytes (siteBytes site) rest
-unfolding siteFile isSite siteBytes
+unfolding siteFileUnder isSiteUnder siteBytes
 site-read bytes {site} h =
     let p = number-gives _ bytes _ h in
     let a = ask-gives _ (leb (p .0) mostPredicates) _ (p .3) in
@@ -153,7 +153,7 @@ site-read bytes {site} h =
 
 -- what is written is read, whatever stands behind it
 pub site-back : (site : Site) (rest : List ℕ) → isSite site ≡ true → siteFile (siteBytes site ++ rest) ≡ gives (site, rest)
-unfolding siteFile isSite siteBytes after ask
+unfolding siteFileUnder isSiteUnder siteBytes after ask
 site-back site rest e =
     let few = leb (length site) mostPredicates in
     let total = leb (rowTotal site) mostRows in
@@ -176,5 +176,5 @@ site-bytes site =
     (bytes-concatMap tableBytes (λ t. bytes-concatMap rowBytes (λ r. bytes-both (numberBytes (r .0)) (numberBytes (r .1)) (number-bytes (r .0)) (number-bytes (r .1))) (t .rows)) site))
 
 pub site-file : FileIsExact readSite siteBytes isSite
-unfolding readSite
+unfolding readSiteUnder
 site-file = file-is-exact _ (record { read = λ _ bytes h. site-read bytes h; written = λ _ site rest e. site-back site rest e }) site-bytes

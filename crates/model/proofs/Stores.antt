@@ -14,7 +14,7 @@ use Rattle.model.specs.SiteFile.{declarations}
 use Rattle.model.specs.Lists.{sameWords}
 use Rattle.model.specs.Site.{Row, Site, rowTotal, mostRows, isSite}
 use Rattle.model.specs.Tables.{mostThreshold}
-use Rattle.model.specs.Store.{tableWords, vpEntries, vpWords, rowsStart, layout, wordsUsed, Holds, Store, storeAt, rowsIn, tablesIn, decoded, isStoreOf, storeOf}
+use Rattle.model.specs.Store.{tableWords, vpEntries, vpWords, rowsStart, layout, wordsUsed, Holds, Store, storeAt, rowsIn, tablesIn, decoded, isStoreOfUnder, isStoreOf, storeOfUnder, storeOf}
 use Rattle.model.proofs.Booleans.{and-cases, and-make}
 use Rattle.model.proofs.Partition.{proper}
 use Rattle.model.proofs.Blocks.{longer-block, drop-block}
@@ -36,14 +36,14 @@ pub words-same : (xs : List ℕ) → sameWords xs xs ≡ true
 words-same [] = refl
 words-same (x ∷ xs) = and-make (eq-eqb x x refl) (words-same xs)
 
-cond-some : {A : Type 0} (b : Bool) (x y : A) → cond b (some x) none ≡ some y → (b ≡ true) × (x ≡ y)
+pub cond-some : {A : Type 0} (b : Bool) (x y : A) → cond b (some x) none ≡ some y → (b ≡ true) × (x ≡ y)
 cond-some true x y e = (refl, cc)
 cond-some false x y e = (cc, cc)
 
 -- ---- what is decoded gives the words
 
 pub store-sound : (words : List ℕ) (store : Store) → storeOf words ≡ some store → Holds words (store .threshold) (store .site)
-unfolding storeOf isStoreOf
+unfolding storeOfUnder isStoreOfUnder
 store-sound words store e =
     let x = cond-some (isStoreOf (decoded words) words) (decoded words) store e in
     let s = decoded words in
@@ -94,7 +94,7 @@ built-holds t site rest h e = record {
 }
 
 pub store-complete : (words : List ℕ) (t : ℕ) (site : Site) → Holds words t site → storeOf words ≡ some (storeAt t site)
-unfolding storeOf isStoreOf
+unfolding storeOfUnder isStoreOfUnder
 store-complete words t site h =
     let used = wordsUsed words in
     let w : words ≡ layout t site ++ drop used words = sym (take-append-drop used words) ∙ ap (λ (x : List ℕ). x ++ drop used words) (h .same) in

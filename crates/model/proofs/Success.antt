@@ -18,7 +18,7 @@ use Rattle.model.specs.Plan.{Plan}
 use Rattle.model.specs.PlanFile.{readPlan}
 use Rattle.model.specs.Planner.{planned}
 use Rattle.model.specs.Solutions.{solutions}
-use Rattle.model.specs.Calls.{outcome, over, either, build, checkOf, checked, givenPlan, withPlan, plan, rowsOutcome, run, yesOrNo, whether}
+use Rattle.model.specs.Calls.{outcome, over, either, buildUnder, build, checkOf, checkedUnder, checked, givenPlanUnder, givenPlan, withPlan, planUnder, plan, rowsOutcome, runUnder, run, yesOrNo, whetherUnder, whether}
 use Rattle.model.specs.declared.answer.Answer.the-variants.{Rows, Built}
 use Rattle.model.specs.declared.answer.Answer.the-variants.{Plan as PlanAnswer}
 use Rattle.model.proofs.Stores.{store-complete}
@@ -29,31 +29,31 @@ use Rattle.model.proofs.Calls.{counts-agree}
 
 pub build-succeeds : (t : ℕ) (bytes memory : List ℕ) (site : Site) → t ≤ mostThreshold → readSite bytes ≡ gives site
     → length (layout t site) ≤ length memory → build t bytes memory ≡ outcome (Built (length (layout t site))) (over (layout t site) memory)
-unfolding build either
+unfolding buildUnder either
 build-succeeds t bytes memory site low read room = rw (le-leb t mostThreshold low, read, le-leb (length (layout t site)) (length memory) room) refl
 
 -- ---- over a store
 
 module _ (words bytes : List ℕ) (t : ℕ) (site : Site) (pattern : Pattern) (holds : Holds words t site) (read : readPattern site bytes ≡ gives pattern) where
   pub check-succeeds : checked words bytes ≡ gives (checkOf (storeAt t site) pattern)
-  unfolding checked either
+  unfolding checkedUnder either
   check-succeeds = rw (store-complete words t site holds, read) refl
 
   pub plan-succeeds : plan words bytes ≡ withPlan PlanAnswer (planned (storeAt t site) pattern)
-  unfolding plan either
+  unfolding planUnder either
   plan-succeeds = rw check-succeeds refl
 
   module _ (steps : List ℕ) (given : Plan) (proper : readPlan (storeAt t site) pattern steps ≡ gives given) where
     pub given-succeeds : givenPlan words bytes steps ≡ gives (checkOf (storeAt t site) pattern)
-    unfolding givenPlan either
+    unfolding givenPlanUnder either
     given-succeeds = rw (check-succeeds, proper) refl
 
     pub run-succeeds : (memory : List ℕ) → run words bytes steps memory ≡ rowsOutcome (width pattern) (solutions site pattern) memory
-    unfolding run either
+    unfolding runUnder either
     run-succeeds memory = rw given-succeeds (counts-agree site pattern (pattern-accepted site bytes pattern read) memory)
 
     pub whether-succeeds : whether words bytes steps ≡ yesOrNo (solutions site pattern)
-    unfolding whether either
+    unfolding whetherUnder either
     whether-succeeds = rw given-succeeds refl
 
 -- ---- rows

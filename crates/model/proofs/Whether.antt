@@ -17,7 +17,7 @@ use Rattle.model.specs.PatternFile.{readPattern}
 use Rattle.model.specs.Plan.{Plan}
 use Rattle.model.specs.PlanFile.{readPlan}
 use Rattle.model.specs.Solutions.{IsSolution, solutions}
-use Rattle.model.specs.Calls.{Outcome, outcome, over, unaltered, either, question, Check, givenPlan, noneByCounts, rowsOutcome, run, yesOrNo, whether}
+use Rattle.model.specs.Calls.{Outcome, outcome, over, unaltered, either, question, Check, givenPlan, noneByCounts, rowsOutcome, runUnder, run, yesOrNo, whetherUnder, whether}
 use Rattle.model.specs.declared.answer.Answer.the-variants.{Rows, None, Yes, No, Refused}
 use Rattle.model.proofs.Solutions.{solutions-sound, solutions-complete}
 use Rattle.model.proofs.PatternFile.{pattern-accepted}
@@ -80,7 +80,7 @@ rows-none v (r ∷ rs) memory = ((λ h. absurd (go (leb (length (r ∷ rs) * v) 
     go false h = let z : _≡_ {A = ℕ} 0 1 = cc in omega arith
 
 pub none-is-no : (words bytes steps memory : List ℕ) → (run words bytes steps memory .answer ≡ None) ↔ (whether words bytes steps ≡ No)
-unfolding run whether either
+unfolding runUnder whetherUnder either
 none-is-no words bytes steps memory = go (givenPlan words bytes steps) refl
   where
     run-answer : Check → Outcome

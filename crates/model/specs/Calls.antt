@@ -9,14 +9,15 @@ use lib.ListN.{length, take, drop, replicate}
 use lib.Dec.{eqb, leb}
 use Rattle.model.specs.Lists.{_∈_, any, concatMap}
 use Rattle.model.specs.Reader.{Reply, refused, gives}
+use Rattle.model.specs.Numbers.{Limits, limitsInForce}
 use Rattle.model.specs.Site.{Site}
-use Rattle.model.specs.SiteFile.{readSite}
+use Rattle.model.specs.SiteFile.{readSiteUnder}
 use Rattle.model.specs.Tables.{Kind, kinds, mostThreshold}
-use Rattle.model.specs.Store.{Store, storeOf, layout}
+use Rattle.model.specs.Store.{Store, storeOfUnder, layout}
 use Rattle.model.specs.Pattern.{Pattern, mostTriplePatterns, width, places, fullTable}
-use Rattle.model.specs.PatternFile.{readPattern}
+use Rattle.model.specs.PatternFile.{readPatternUnder}
 use Rattle.model.specs.Plan.{Plan, qualifies, reducedTable}
-use Rattle.model.specs.PlanFile.{stepNumbers, readPlan}
+use Rattle.model.specs.PlanFile.{stepNumbers, readPlanUnder}
 use Rattle.model.specs.Planner.{planned}
 use Rattle.model.specs.Solutions.{solutions}
 use Rattle.model.specs.declared.answer.Answer.{Answer}
@@ -65,11 +66,14 @@ filled t site memory =
     either (unaltered memory) (question 9 (leb (length (layout t site)) (length memory))) λ _.
     outcome (Built (length (layout t site))) (over (layout t site) memory)
 
-unfoldable pub build : ℕ → List ℕ → List ℕ → Outcome
-build t bytes memory =
+unfoldable pub buildUnder : Limits → ℕ → List ℕ → List ℕ → Outcome
+buildUnder limits t bytes memory =
     either (unaltered memory) (question 1 (leb t mostThreshold)) λ _.
-    either (unaltered memory) (readSite bytes) λ site.
+    either (unaltered memory) (readSiteUnder limits bytes) λ site.
     filled t site memory
+
+abbrev pub build : ℕ → List ℕ → List ℕ → Outcome
+build = buildUnder limitsInForce
 
 -- ---- a check over a store: every call that is given one begins with it
 
@@ -81,18 +85,24 @@ abbrev pub checkOf : Store → Pattern → Check
 checkOf store pattern = record { store = store; pattern = pattern }
 
 -- questions 10 to 17
-unfoldable pub checked : List ℕ → List ℕ → Reply Check
-checked words bytes =
-    either refused (storeReply (storeOf words)) λ store.
-    either refused (readPattern (store .site) bytes) λ pattern.
+unfoldable pub checkedUnder : Limits → List ℕ → List ℕ → Reply Check
+checkedUnder limits words bytes =
+    either refused (storeReply (storeOfUnder limits words)) λ store.
+    either refused (readPatternUnder limits (store .site) bytes) λ pattern.
     gives (checkOf store pattern)
 
+abbrev pub checked : List ℕ → List ℕ → Reply Check
+checked = checkedUnder limitsInForce
+
 -- questions 10 to 20: the check, for which a proper plan is given
-unfoldable pub givenPlan : List ℕ → List ℕ → List ℕ → Reply Check
-givenPlan words bytes planBytes =
-    either refused (checked words bytes) λ check.
-    either refused (readPlan (check .store) (check .pattern) planBytes) λ _.
+unfoldable pub givenPlanUnder : Limits → List ℕ → List ℕ → List ℕ → Reply Check
+givenPlanUnder limits words bytes planBytes =
+    either refused (checkedUnder limits words bytes) λ check.
+    either refused (readPlanUnder limits (check .store) (check .pattern) planBytes) λ _.
     gives check
+
+abbrev pub givenPlan : List ℕ → List ℕ → List ℕ → Reply Check
+givenPlan = givenPlanUnder limitsInForce
 
 -- ---- plan
 
@@ -108,10 +118,16 @@ abbrev pub withPlan : Answer → Plan → Planned
 withPlan answer plan = record { answer = answer; plan = planNumbers plan }
 
 -- zeros stand beside a refusal
-unfoldable pub plan : List ℕ → List ℕ → Planned
-plan words bytes =
-    either (λ n. withPlan (Refused n) []) (checked words bytes) λ check.
+abbrev pub noPlan : ℕ → Planned
+noPlan n = withPlan (Refused n) []
+
+unfoldable pub planUnder : Limits → List ℕ → List ℕ → Planned
+planUnder limits words bytes =
+    either noPlan (checkedUnder limits words bytes) λ check.
     withPlan PlanAnswer (planned (check .store) (check .pattern))
+
+abbrev pub plan : List ℕ → List ℕ → Planned
+plan = planUnder limitsInForce
 
 -- ---- run
 
@@ -137,12 +153,15 @@ rowsOutcome v (r ∷ rs) memory =
     either (unaltered memory) (question 21 (leb (length (r ∷ rs) * v) (length memory))) λ _.
     outcome (Rows (length (r ∷ rs)) v) (over (concatMap (λ x. x) (r ∷ rs)) memory)
 
-unfoldable pub run : List ℕ → List ℕ → List ℕ → List ℕ → Outcome
-run words bytes planBytes memory =
-    either (unaltered memory) (givenPlan words bytes planBytes) λ check.
+unfoldable pub runUnder : Limits → List ℕ → List ℕ → List ℕ → List ℕ → Outcome
+runUnder limits words bytes planBytes memory =
+    either (unaltered memory) (givenPlanUnder limits words bytes planBytes) λ check.
     let site = check .store .site in
     let pattern = check .pattern in
     cond (noneByCounts site pattern) (outcome None memory) (rowsOutcome (width pattern) (solutions site pattern) memory)
+
+abbrev pub run : List ℕ → List ℕ → List ℕ → List ℕ → Outcome
+run = runUnder limitsInForce
 
 -- ---- whether
 
@@ -152,10 +171,13 @@ yesOrNo [] = No
 yesOrNo (r ∷ rs) = Yes
 
 -- S-7: yes exactly where the accepted check has a solution; no memory is lent but for the answer
-unfoldable pub whether : List ℕ → List ℕ → List ℕ → Answer
-whether words bytes planBytes =
-    either Refused (givenPlan words bytes planBytes) λ check.
+unfoldable pub whetherUnder : Limits → List ℕ → List ℕ → List ℕ → Answer
+whetherUnder limits words bytes planBytes =
+    either Refused (givenPlanUnder limits words bytes planBytes) λ check.
     yesOrNo (solutions (check .store .site) (check .pattern))
+
+abbrev pub whether : List ℕ → List ℕ → List ℕ → Answer
+whether = whetherUnder limitsInForce
 
 -- ---- the number and the values of an answer
 

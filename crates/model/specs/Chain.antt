@@ -19,6 +19,13 @@ use Rattle.model.specs.declared.plan.Plan.{Plan as PlanNumbers}
 abbrev pub chainThreshold : ℕ
 chainThreshold = 1000
 
+-- the check program's buffers: its two files are read into so many bytes
+abbrev pub siteBufferBytes : ℕ
+siteBufferBytes = 8448
+
+abbrev pub checkBufferBytes : ℕ
+checkBufferBytes = 128
+
 -- the store is the chain's own
 abbrev pub chainStoreWords : ℕ
 chainStoreWords = 8192

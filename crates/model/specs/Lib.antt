@@ -21,3 +21,4 @@ pub mod Text
 pub mod Questions
 pub mod Files
 pub mod Components
+pub mod Kept

@@ -1,5 +1,5 @@
--- A number is 1 to 3 bytes, seven bits each, low group first; the top bit is set in all bytes but its last. It is in shortest
--- form: a last byte of 00 stands only alone.
+-- A number is 1 to 4 bytes, seven bits each, low group first; the top bit is set in all bytes but its last. It is in shortest
+-- form: a last byte of 00 stands only alone. Readers are defined under any limits, and named for those in force.
 use Prim.Native.Nat.{ℕ, zero, suc, _+_, _-_, _*_, _/_, _%_, _^_}
 use mathlib.Core.Bool.{Bool, true, false, cond, _||_, not}
 use mathlib.Core.Option.{Option, none, some}
@@ -9,16 +9,32 @@ use lib.Dec.{eqb, ltb, leb}
 use Rattle.model.specs.Lists.{all}
 use Rattle.model.specs.Reader.{Reply, refused, gives, Reader}
 
+-- the most bytes of a number, and the greatest term
+pub record Limits : Type 0 where
+  pub bytes : ℕ
+  pub term : ℕ
+
 -- the most bytes of a number
 abbrev pub mostNumberBytes : ℕ
-mostNumberBytes = 3
+mostNumberBytes = 4
 
--- the greatest term
+-- the greatest term: radio serials have 24 bits
 abbrev pub mostTerm : ℕ
-mostTerm = 65535
+mostTerm = 16777215
+
+-- S-9's
+abbrev pub limitsInForce : Limits
+limitsInForce = record { bytes = mostNumberBytes; term = mostTerm }
+
+-- document 01's, which were in force before
+abbrev pub limitsOf01 : Limits
+limitsOf01 = record { bytes = 3; term = 65535 }
+
+abbrev pub isTermUnder : Limits → ℕ → Bool
+isTermUnder limits t = leb t (limits .term)
 
 abbrev pub isTerm : ℕ → Bool
-isTerm t = leb t mostTerm
+isTerm t = isTermUnder limitsInForce t
 
 -- each is a byte
 abbrev pub areBytes : List ℕ → Bool
@@ -43,16 +59,22 @@ numberWithin zero alone bytes = none
 numberWithin (suc k) alone [] = none
 numberWithin (suc k) alone (b ∷ bs) = cond (ltb b 128) (lastGroup alone b) (lowGroup b (numberWithin k false bs))
 
-unfoldable pub numberIn : List ℕ → Option Sized
-numberIn bytes = numberWithin mostNumberBytes true bytes
+unfoldable pub numberInUnder : Limits → List ℕ → Option Sized
+numberInUnder limits bytes = numberWithin (limits .bytes) true bytes
+
+abbrev pub numberIn : List ℕ → Option Sized
+numberIn = numberInUnder limitsInForce
 
 abbrev pub orRefused : ℕ → List ℕ → Option Sized → Reply (ℕ × List ℕ)
 orRefused n bytes none = refused n
 orRefused n bytes (some x) = gives (x .0, drop (x .1) bytes)
 
 -- a number, or refusal n
-unfoldable pub number : ℕ → Reader ℕ
-number n bytes = orRefused n bytes (numberIn bytes)
+unfoldable pub numberUnder : Limits → ℕ → Reader ℕ
+numberUnder limits n bytes = orRefused n bytes (numberInUnder limits bytes)
+
+abbrev pub number : ℕ → Reader ℕ
+number = numberUnder limitsInForce
 
 -- ---- the writer
 

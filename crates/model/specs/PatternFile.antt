@@ -6,7 +6,7 @@ use lib.ListN.{length}
 use lib.Dec.{eqb}
 use Rattle.model.specs.Lists.{concatMap}
 use Rattle.model.specs.Reader.{Reply, Reader, _>>=_, _>>_, return, ask, wholeFile, repeated}
-use Rattle.model.specs.Numbers.{isTerm, number, numberBytes}
+use Rattle.model.specs.Numbers.{Limits, limitsInForce, isTermUnder, numberUnder, numberBytes}
 use Rattle.model.specs.Site.{Site, isDeclared}
 use Rattle.model.specs.Pattern.{Pattern, positions, variables, width, isNext, isPatternLength}
 use Rattle.model.specs.declared.pattern.Position.{Position}
@@ -17,35 +17,51 @@ use Rattle.model.specs.declared.pattern.TriplePattern.{TriplePattern}
 abbrev pub positionOf : ℕ → Position
 positionOf n = cond (eqb (n % 2) 0) (Term (n / 2)) (Var (n / 2))
 
--- a subject or an object, n variables before it
-unfoldable pub askPosition : ℕ → Position → Reader (Unit {0})
-askPosition n (Term t) = ask 15 (isTerm t)
-askPosition n (Var v) = ask 16 (isNext n v)
+module _ (limits : Limits) where
+  -- a subject or an object, n variables before it
+  unfoldable pub askPositionUnder : ℕ → Position → Reader (Unit {0})
+  askPositionUnder n (Term t) = ask 15 (isTermUnder limits t)
+  askPositionUnder n (Var v) = ask 16 (isNext n v)
 
-unfoldable pub askPredicate : Site → Position → Reader (Unit {0})
-askPredicate site (Term t) = ask 13 (isTerm t) >> ask 14 (isDeclared site t)
-askPredicate site (Var v) = ask 13 false
+  unfoldable pub askPredicateUnder : Site → Position → Reader (Unit {0})
+  askPredicateUnder site (Term t) = ask 13 (isTermUnder limits t) >> ask 14 (isDeclared site t)
+  askPredicateUnder site (Var v) = ask 13 false
 
--- a triple pattern, with those before it
-unfoldable pub triplePattern : Site → Pattern → Reader TriplePattern
-triplePattern site done = do
-  s ← number 11
-  askPosition (width done) (positionOf s)
-  p ← number 11
-  askPredicate site (positionOf p)
-  o ← number 11
-  askPosition (variables (width done) (positionOf s ∷ positionOf p ∷ [])) (positionOf o)
-  return (record { subject = positionOf s; predicate = positionOf p; object = positionOf o })
+  -- a triple pattern, with those before it
+  unfoldable pub triplePatternUnder : Site → Pattern → Reader TriplePattern
+  triplePatternUnder site done = do
+    s ← numberUnder limits 11
+    askPositionUnder (width done) (positionOf s)
+    p ← numberUnder limits 11
+    askPredicateUnder site (positionOf p)
+    o ← numberUnder limits 11
+    askPositionUnder (variables (width done) (positionOf s ∷ positionOf p ∷ [])) (positionOf o)
+    return (record { subject = positionOf s; predicate = positionOf p; object = positionOf o })
 
-unfoldable pub patternFile : Site → Reader Pattern
-patternFile site = do
-  n ← number 11
-  ask 12 (isPatternLength n)
-  repeated (triplePattern site) n []
+  unfoldable pub patternFileUnder : Site → Reader Pattern
+  patternFileUnder site = do
+    n ← numberUnder limits 11
+    ask 12 (isPatternLength n)
+    repeated (triplePatternUnder site) n []
 
--- the pattern of a file, or a refusal's number
-unfoldable pub readPattern : Site → List ℕ → Reply Pattern
-readPattern site bytes = wholeFile 17 (patternFile site) bytes
+  -- the pattern of a file, or a refusal's number
+  unfoldable pub readPatternUnder : Site → List ℕ → Reply Pattern
+  readPatternUnder site bytes = wholeFile 17 (patternFileUnder site) bytes
+
+abbrev pub askPosition : ℕ → Position → Reader (Unit {0})
+askPosition = askPositionUnder limitsInForce
+
+abbrev pub askPredicate : Site → Position → Reader (Unit {0})
+askPredicate = askPredicateUnder limitsInForce
+
+abbrev pub triplePattern : Site → Pattern → Reader TriplePattern
+triplePattern = triplePatternUnder limitsInForce
+
+abbrev pub patternFile : Site → Reader Pattern
+patternFile = patternFileUnder limitsInForce
+
+abbrev pub readPattern : Site → List ℕ → Reply Pattern
+readPattern = readPatternUnder limitsInForce
 
 -- ---- the writer
 

@@ -31,11 +31,14 @@ pub record Begins (bytes : List ℕ) (n : ℕ) (rest : List ℕ) : Type 0 where
   pub front : numberIn bytes ≡ some (n, size)
   pub behind : drop size bytes ≡ rest
 
--- what that means: 1 to 3 bytes, low group first, the top bit set in all but the last, and a last byte of 00 only alone
+-- what that means: 1 to 4 bytes, low group first, the top bit set in all but the last, and a last byte of 00 only alone
 pub data NumberForm (bytes : List ℕ) (n : ℕ) (rest : List ℕ) : Type 0 where
   one-byte : n < 128 → bytes ≡ n ∷ rest → NumberForm bytes n rest
   two-bytes : (a b : ℕ) → 1 ≤ b → b < 128 → n ≡ a + 128 * b → bytes ≡ (128 + a) ∷ b ∷ rest → NumberForm bytes n rest
   three-bytes : (a b c : ℕ) → 1 ≤ c → c < 128 → n ≡ a + 128 * (b + 128 * c) → bytes ≡ (128 + a) ∷ (128 + b) ∷ c ∷ rest
+      → NumberForm bytes n rest
+  four-bytes : (a b c d : ℕ) → 1 ≤ d → d < 128 → n ≡ a + 128 * (b + 128 * (c + 128 * d))
+      → bytes ≡ (128 + a) ∷ (128 + b) ∷ (128 + c) ∷ d ∷ rest
       → NumberForm bytes n rest
 
 module _ {A : Type 0} where
@@ -59,10 +62,10 @@ module _ {A : Type 0} where
 
 -- a term above the one before
 abbrev pub PredicateIsAbove : List Declaration → ℕ → Type 0
-PredicateIsAbove done p = (p ≤ 65535) × ((last : ℕ) → IsLast last (declaredTerms done) → last < p)
+PredicateIsAbove done p = (p ≤ 16777215) × ((last : ℕ) → IsLast last (declaredTerms done) → last < p)
 
 abbrev pub PredicateNotAbove : List Declaration → ℕ → Type 0
-PredicateNotAbove done p = (65535 < p) ⊎ ((last : ℕ) × IsLast last (declaredTerms done) × (p ≤ last))
+PredicateNotAbove done p = (16777215 < p) ⊎ ((last : ℕ) × IsLast last (declaredTerms done) × (p ≤ last))
 
 pub data DeclarationRefused (done : List Declaration) (bytes : List ℕ) : ℕ → Type 0 where
   predicate-not-whole : NoNumber bytes → DeclarationRefused done bytes 2
@@ -84,13 +87,13 @@ RowNotAbove done r = (last : Row) × IsLast last done × ((r .0 < last .0) ⊎ (
 
 pub data RowRefused (done : List Row) (bytes : List ℕ) : ℕ → Type 0 where
   subject-not-whole : NoNumber bytes → RowRefused done bytes 2
-  subject-no-term : {s : ℕ} {rest : List ℕ} → Begins bytes s rest → 65535 < s → RowRefused done bytes 6
-  object-not-whole : {s : ℕ} {rest : List ℕ} → Begins bytes s rest → s ≤ 65535 → NoNumber rest → RowRefused done bytes 2
+  subject-no-term : {s : ℕ} {rest : List ℕ} → Begins bytes s rest → 16777215 < s → RowRefused done bytes 6
+  object-not-whole : {s : ℕ} {rest : List ℕ} → Begins bytes s rest → s ≤ 16777215 → NoNumber rest → RowRefused done bytes 2
   object-no-term : {s o : ℕ} {rest end : List ℕ}
-      → Begins bytes s rest → s ≤ 65535 → Begins rest o end → 65535 < o
+      → Begins bytes s rest → s ≤ 16777215 → Begins rest o end → 16777215 < o
       → RowRefused done bytes 6
   row-not-above : {s o : ℕ} {rest end : List ℕ}
-      → Begins bytes s rest → s ≤ 65535 → Begins rest o end → o ≤ 65535 → RowNotAbove done (s, o)
+      → Begins bytes s rest → s ≤ 16777215 → Begins rest o end → o ≤ 16777215 → RowNotAbove done (s, o)
       → RowRefused done bytes 7
 
 -- ---- the site file
@@ -121,11 +124,11 @@ pub data SiteRefused (bytes : List ℕ) : ℕ → Type 0 where
 
 -- a subject or an object, n variables before it: 2t for the term t, or 2v + 1 for the variable v
 pub data PositionPasses (n x : ℕ) : Type 0 where
-  is-term : (t : ℕ) → x ≡ 2 * t → t ≤ 65535 → PositionPasses n x
+  is-term : (t : ℕ) → x ≡ 2 * t → t ≤ 16777215 → PositionPasses n x
   is-variable : (v : ℕ) → x ≡ 2 * v + 1 → v < 8 → v ≤ n → PositionPasses n x
 
 pub data PositionRefused (n x : ℕ) : ℕ → Type 0 where
-  no-term : (t : ℕ) → x ≡ 2 * t → 65535 < t → PositionRefused n x 15
+  no-term : (t : ℕ) → x ≡ 2 * t → 16777215 < t → PositionRefused n x 15
   out-of-range : (v : ℕ) → x ≡ 2 * v + 1 → 8 ≤ v → PositionRefused n x 16
   out-of-order : (v : ℕ) → x ≡ 2 * v + 1 → n < v → PositionRefused n x 16
 
@@ -133,12 +136,12 @@ abbrev pub IsDeclared : Site → ℕ → Type 0
 IsDeclared site t = (table : Table) × (table ∈ site) × (table .predicate ≡ t)
 
 abbrev pub PredicatePasses : Site → ℕ → Type 0
-PredicatePasses site x = (t : ℕ) × (x ≡ 2 * t) × (t ≤ 65535) × IsDeclared site t
+PredicatePasses site x = (t : ℕ) × (x ≡ 2 * t) × (t ≤ 16777215) × IsDeclared site t
 
 pub data PredicateRefused (site : Site) (x : ℕ) : ℕ → Type 0 where
   is-a-variable : (v : ℕ) → x ≡ 2 * v + 1 → PredicateRefused site x 13
-  above-terms : (t : ℕ) → x ≡ 2 * t → 65535 < t → PredicateRefused site x 13
-  not-declared : (t : ℕ) → x ≡ 2 * t → t ≤ 65535 → (IsDeclared site t → ⊥) → PredicateRefused site x 14
+  above-terms : (t : ℕ) → x ≡ 2 * t → 16777215 < t → PredicateRefused site x 13
+  not-declared : (t : ℕ) → x ≡ 2 * t → t ≤ 16777215 → (IsDeclared site t → ⊥) → PredicateRefused site x 14
 
 -- a subject is asked before its predicate, and that before the object, which has the subject's variable before it
 pub data TripleRefused (site : Site) (done : Pattern) (bytes : List ℕ) : ℕ → Type 0 where

@@ -5,7 +5,7 @@ use mathlib.Core.List.{List, [], map}
 use lib.ListN.{length, getD}
 use lib.Dec.{eqb, ltb, leb}
 use Rattle.model.specs.Lists.{_∈_, all, any, concatMap, sum, ascends}
-use Rattle.model.specs.Numbers.{isTerm}
+use Rattle.model.specs.Numbers.{Limits, limitsInForce, isTermUnder}
 
 -- subject and object
 abbrev pub Row : Type 0
@@ -36,17 +36,27 @@ rowTotal site = sum (λ t. length (t .rows)) site
 abbrev pub withinLimits : Site → Bool
 withinLimits site = leb (length site) mostPredicates && leb (rowTotal site) mostRows
 
--- the predicates are terms, strictly ascending
+module _ (limits : Limits) where
+  -- the predicates are terms, strictly ascending
+  abbrev pub predicatesProperUnder : Site → Bool
+  predicatesProperUnder site = all (λ t. isTermUnder limits (t .predicate)) site && ascends ltb (map (λ t. t .predicate) site)
+
+  -- the rows hold terms and strictly ascend
+  abbrev pub rowsProperUnder : List Row → Bool
+  rowsProperUnder rows = all (λ r. isTermUnder limits (r .0) && isTermUnder limits (r .1)) rows && ascends rowBefore rows
+
+  -- what a site is, without its file
+  unfoldable pub isSiteUnder : Site → Bool
+  isSiteUnder site = withinLimits site && (predicatesProperUnder site && all (λ t. rowsProperUnder (t .rows)) site)
+
 abbrev pub predicatesProper : Site → Bool
-predicatesProper site = all (λ t. isTerm (t .predicate)) site && ascends ltb (map (λ t. t .predicate) site)
+predicatesProper = predicatesProperUnder limitsInForce
 
--- the rows hold terms and strictly ascend
 abbrev pub rowsProper : List Row → Bool
-rowsProper rows = all (λ r. isTerm (r .0) && isTerm (r .1)) rows && ascends rowBefore rows
+rowsProper = rowsProperUnder limitsInForce
 
--- what a site is, without its file
-unfoldable pub isSite : Site → Bool
-isSite site = withinLimits site && (predicatesProper site && all (λ t. rowsProper (t .rows)) site)
+abbrev pub isSite : Site → Bool
+isSite = isSiteUnder limitsInForce
 
 -- ---- facts
 

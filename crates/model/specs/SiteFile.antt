@@ -6,7 +6,7 @@ use lib.ListN.{length}
 use lib.Dec.{ltb, leb}
 use Rattle.model.specs.Lists.{all, concatMap, sum, ascends, aboveLast}
 use Rattle.model.specs.Reader.{Reply, Reader, _>>=_, _>>_, return, ask, wholeFile, repeated}
-use Rattle.model.specs.Numbers.{isTerm, number, numberBytes}
+use Rattle.model.specs.Numbers.{Limits, limitsInForce, isTermUnder, isTerm, numberUnder, numberBytes}
 use Rattle.model.specs.Site.{Row, rowBefore, Table, Site, mostPredicates, mostRows}
 
 -- a predicate's term and its row count
@@ -23,42 +23,58 @@ declaredTotal ds = sum (λ d. d .1) ds
 abbrev pub declaredProper : List Declaration → Bool
 declaredProper ds = all isTerm (declaredTerms ds) && ascends ltb (declaredTerms ds) && leb (declaredTotal ds) mostRows
 
--- a declaration, with those before it
-unfoldable pub declaration : List Declaration → Reader Declaration
-declaration done = do
-  p ← number 2
-  ask 4 (isTerm p && aboveLast ltb (declaredTerms done) p)
-  n ← number 2
-  ask 5 (leb (declaredTotal done + n) mostRows)
-  return (p, n)
+module _ (limits : Limits) where
+  -- a declaration, with those before it
+  unfoldable pub declarationUnder : List Declaration → Reader Declaration
+  declarationUnder done = do
+    p ← numberUnder limits 2
+    ask 4 (isTermUnder limits p && aboveLast ltb (declaredTerms done) p)
+    n ← numberUnder limits 2
+    ask 5 (leb (declaredTotal done + n) mostRows)
+    return (p, n)
 
--- a row of a table, with those before it
-unfoldable pub row : List Row → Reader Row
-row done = do
-  s ← number 2
-  ask 6 (isTerm s)
-  o ← number 2
-  ask 6 (isTerm o)
-  ask 7 (aboveLast rowBefore done (s, o))
-  return (s, o)
+  -- a row of a table, with those before it
+  unfoldable pub rowUnder : List Row → Reader Row
+  rowUnder done = do
+    s ← numberUnder limits 2
+    ask 6 (isTermUnder limits s)
+    o ← numberUnder limits 2
+    ask 6 (isTermUnder limits o)
+    ask 7 (aboveLast rowBefore done (s, o))
+    return (s, o)
 
--- the rows of each declared predicate; `done` are the tables before
-unfoldable pub tables : List Declaration → Site → Reader Site
-tables [] done = return done
-tables (d ∷ ds) done = do
-  rows ← repeated row (d .1) []
-  tables ds (done ++ record { predicate = d .0; rows = rows } ∷ [])
+  -- the rows of each declared predicate; `done` are the tables before
+  unfoldable pub tablesUnder : List Declaration → Site → Reader Site
+  tablesUnder [] done = return done
+  tablesUnder (d ∷ ds) done = do
+    rows ← repeated rowUnder (d .1) []
+    tablesUnder ds (done ++ record { predicate = d .0; rows = rows } ∷ [])
 
-unfoldable pub siteFile : Reader Site
-siteFile = do
-  p ← number 2
-  ask 3 (leb p mostPredicates)
-  declared ← repeated declaration p []
-  tables declared []
+  unfoldable pub siteFileUnder : Reader Site
+  siteFileUnder = do
+    p ← numberUnder limits 2
+    ask 3 (leb p mostPredicates)
+    declared ← repeated declarationUnder p []
+    tablesUnder declared []
 
--- the site of a file, or a refusal's number
-unfoldable pub readSite : List ℕ → Reply Site
-readSite bytes = wholeFile 8 siteFile bytes
+  -- the site of a file, or a refusal's number
+  unfoldable pub readSiteUnder : List ℕ → Reply Site
+  readSiteUnder bytes = wholeFile 8 siteFileUnder bytes
+
+abbrev pub declaration : List Declaration → Reader Declaration
+declaration = declarationUnder limitsInForce
+
+abbrev pub row : List Row → Reader Row
+row = rowUnder limitsInForce
+
+abbrev pub tables : List Declaration → Site → Reader Site
+tables = tablesUnder limitsInForce
+
+abbrev pub siteFile : Reader Site
+siteFile = siteFileUnder limitsInForce
+
+abbrev pub readSite : List ℕ → Reply Site
+readSite = readSiteUnder limitsInForce
 
 -- ---- the writer
 

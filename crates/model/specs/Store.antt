@@ -7,7 +7,8 @@ use mathlib.Core.List.{List, [], _∷_, _++_, map}
 use lib.ListN.{length, getD, take, drop}
 use lib.Dec.{leb}
 use Rattle.model.specs.Lists.{concatMap, sum, sameWords}
-use Rattle.model.specs.Site.{Row, Site, isSite, rowTotal, mostPredicates, mostRows}
+use Rattle.model.specs.Numbers.{Limits, limitsInForce}
+use Rattle.model.specs.Site.{Row, Site, isSiteUnder, isSite, rowTotal, mostPredicates, mostRows}
 use Rattle.model.specs.SiteFile.{Declaration, declarations}
 use Rattle.model.specs.Tables.{kinds, kindCount, semiJoin, isStored, mostThreshold}
 
@@ -134,12 +135,19 @@ decoded words =
     let p = getD words 0 0 in
     storeAt (getD words 1 0) (tablesIn (min p mostPredicates) (drop 3 words) (drop (rowsStart p) words))
 
--- the store gives the first "words used" words
-unfoldable pub isStoreOf : Store → List ℕ → Bool
-isStoreOf store words =
-    (leb (store .threshold) mostThreshold && isSite (store .site))
-    && sameWords (take (wordsUsed words) words) (layout (store .threshold) (store .site))
+module _ (limits : Limits) where
+  -- the store gives the first "words used" words
+  unfoldable pub isStoreOfUnder : Store → List ℕ → Bool
+  isStoreOfUnder store words =
+      (leb (store .threshold) mostThreshold && isSiteUnder limits (store .site))
+      && sameWords (take (wordsUsed words) words) (layout (store .threshold) (store .site))
 
--- the threshold and the site of a store's words; none where question 10 is answered no
-unfoldable pub storeOf : List ℕ → Option Store
-storeOf words = cond (isStoreOf (decoded words) words) (some (decoded words)) none
+  -- the threshold and the site of a store's words; none where question 10 is answered no
+  unfoldable pub storeOfUnder : List ℕ → Option Store
+  storeOfUnder words = cond (isStoreOfUnder (decoded words) words) (some (decoded words)) none
+
+abbrev pub isStoreOf : Store → List ℕ → Bool
+isStoreOf = isStoreOfUnder limitsInForce
+
+abbrev pub storeOf : List ℕ → Option Store
+storeOf = storeOfUnder limitsInForce

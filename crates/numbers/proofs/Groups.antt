@@ -11,7 +11,7 @@ use lib.ListN.{length, getD, drop, drop-of-length-le}
 use lib.Seq.{drop-cons}
 use lib.Dec.{eqb, ltb}
 use borrow.Author.Tests.{lt-ltb, le-ltb, eqb-true, eq-eqb, ne-eqb}
-use Rattle.model.specs.Numbers.{mostNumberBytes, Sized, lastGroup, lowGroup, numberWithin, numberIn, numberLimit}
+use Rattle.model.specs.Numbers.{mostNumberBytes, Sized, lastGroup, lowGroup, numberWithin, numberInUnder, numberIn, numberLimit}
 use Rattle.model.proofs.Booleans.{or-left, or-right}
 use Rattle.numbers.specs.declared.number.Number.{Number}
 use Rattle.numbers.specs.declared.number.Number.the-variants.{Value, Bad}
@@ -33,7 +33,7 @@ pub record Reading (s : List ℕ) (at k value weight next : ℕ) : Type 0 where
   pub answer : numberAt s at ≡ above value weight next (ahead s k next)
 
 pub none-read : (s : List ℕ) (at : ℕ) → Reading s at 0 0 1 at
-unfolding numberAt numberIn
+unfolding numberAt numberInUnder
 none-read s at = record { weighs = refl; small = omega arith; answer = go (numberIn (drop at s)) }
   where
     go : (o : Option Sized) → placed at o ≡ above 0 1 at o

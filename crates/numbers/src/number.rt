@@ -3,7 +3,7 @@ ghost use Prim.Native.Nat.{_<_};
 ghost use Rattle.numbers.specs.NumberAt.{numberAt};
 
 // The most bytes of a number.
-const NUMBER_BYTES: usize = 3;
+const NUMBER_BYTES: usize = 4;
 
 // What stands at a place of some bytes: a number's value and the place after it; Bad where it is not whole or not in shortest form.
 pub enum Number {

@@ -13,7 +13,7 @@ use Rattle.model.specs.Lists.{concatMap}
 use Rattle.model.specs.Reader.{Reply, refused, gives, after, ask, repeated, wholeFile}
 use Rattle.model.specs.Site.{Site}
 use Rattle.model.specs.Pattern.{Pattern, mostTriplePatterns, mostVariables, positions, variables, width, isPatternLength}
-use Rattle.model.specs.PatternFile.{triplePattern, patternFile, readPattern}
+use Rattle.model.specs.PatternFile.{triplePattern, patternFileUnder, readPatternUnder, readPattern}
 use Rattle.model.specs.declared.pattern.TriplePattern.{TriplePattern}
 use Rattle.model.proofs.Blocks.{concatMap-append}
 use Rattle.model.proofs.Readers.{PartRead, none-read, all-read, next-refused, next-read}
@@ -165,26 +165,26 @@ module _ {site : Site} {n : ℕ} {bytes s : List ℕ} {members : List Member} {s
 
 module _ (site : Site) (s : List ℕ) where
   pub no-count : numberAt s 0 ≡ Bad → readPattern site s ≡ refused 11
-  unfolding readPattern wholeFile patternFile after
+  unfolding readPatternUnder wholeFile patternFileUnder after
   no-count e = rw (number-bad 11 s 0 e) refl
 
   module _ {n at : ℕ} (e : numberAt s 0 ≡ Value n at) where
     pub count-refused : isPatternLength n ≡ false → readPattern site s ≡ refused 12
-    unfolding readPattern wholeFile patternFile after ask
+    unfolding readPatternUnder wholeFile patternFileUnder after ask
     count-refused t = rw (number-value 11 s 0 e, t) refl
 
     module _ (t : isPatternLength n ≡ true) where
       pub triples-refused : {m : ℕ} → repeated (triplePattern site) n [] (drop at s) ≡ refused m → readPattern site s ≡ refused m
-      unfolding readPattern wholeFile patternFile after ask
+      unfolding readPatternUnder wholeFile patternFileUnder after ask
       triples-refused q = rw (number-value 11 s 0 e, t, q) refl
 
       module _ {pattern : Pattern} (next : ℕ) (q : repeated (triplePattern site) n [] (drop at s) ≡ gives (pattern, drop next s)) where
         pub bytes-left : next < length s → readPattern site s ≡ refused 17
-        unfolding readPattern wholeFile patternFile after ask
+        unfolding readPatternUnder wholeFile patternFileUnder after ask
         bytes-left h = rw (number-value 11 s 0 e, t, q, drop-cons s next 0 h) refl
 
         pub pattern-given : length s ≤ next → readPattern site s ≡ gives pattern
-        unfolding readPattern wholeFile patternFile after ask
+        unfolding readPatternUnder wholeFile patternFileUnder after ask
         pattern-given h = rw (number-value 11 s 0 e, t, q, drop-of-length-le s h) refl
 
   -- ---- what the code returns

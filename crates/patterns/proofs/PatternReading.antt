@@ -8,7 +8,7 @@ use Rattle.model.specs.Reader.{refused, gives, Reader, _>>=_, _>>_, after, ask,
 use Rattle.model.specs.Numbers.{isTerm, number}
 use Rattle.model.specs.Site.{Site}
 use Rattle.model.specs.Pattern.{Pattern, mostVariables, variablesWith, variables, width}
-use Rattle.model.specs.PatternFile.{positionOf, askPosition, askPredicate, triplePattern}
+use Rattle.model.specs.PatternFile.{positionOf, askPosition, askPredicateUnder, askPredicate, triplePatternUnder, triplePattern}
 use Rattle.model.specs.declared.pattern.Position.{Position}
 use Rattle.model.specs.declared.pattern.Position.the-variants.{Term, Var}
 use Rattle.model.specs.declared.pattern.TriplePattern.{TriplePattern}
@@ -74,18 +74,18 @@ memberOf subject term object table = record { triple = record { subject = subjec
 
 module _ (site : Site) (met : ℕ) (s : List ℕ) (at : ℕ) where
   pub no-subject : numberAt s at ≡ Bad → MemberReadOf site met at s (Refused 11)
-  unfolding triplePattern after
+  unfolding triplePatternUnder after
   no-subject e done w = rw (number-bad 11 s at e) refl
 
   module _ {subject : Position} {middle m : ℕ} (first : PositionAsked s at met subject middle m) where
     pub subject-refused : (m ≡ 0 → ⊥) → MemberReadOf site met at s (Refused m)
-    unfolding triplePattern after
+    unfolding triplePatternUnder after
     subject-refused h done w =
         rw (number-value 11 s at (first .read .stands), w, ← first .read .position, first .question, replied-refused m (drop middle s) h) refl
 
     module _ (passed : m ≡ 0) where
       subject-passed : (done : Pattern) → width done ≡ met → triplePattern site done (drop at s) ≡ predicateReader site met subject (drop middle s)
-      unfolding triplePattern after
+      unfolding triplePatternUnder after
       subject-passed done w =
           rw (number-value 11 s at (first .read .stands), w, ← first .read .position, first .question, replied-passed (drop middle s) passed) refl
 
@@ -94,23 +94,23 @@ module _ (site : Site) (met : ℕ) (s : List ℕ) (at : ℕ) where
       no-predicate e done w = rw (subject-passed done w, number-bad 11 s middle e) refl
 
       pub predicate-variable : {v behind : ℕ} → PositionRead s middle (Var v) behind → MemberReadOf site met at s (Refused 13)
-      unfolding after ask askPredicate
+      unfolding after ask askPredicateUnder
       predicate-variable second done w = rw (subject-passed done w, number-value 11 s middle (second .stands), ← second .position) refl
 
       module _ {term behind : ℕ} (second : PositionRead s middle (Term term) behind) where
         pub wide-predicate : isTerm term ≡ false → MemberReadOf site met at s (Refused 13)
-        unfolding after ask askPredicate
+        unfolding after ask askPredicateUnder
         wide-predicate t done w = rw (subject-passed done w, number-value 11 s middle (second .stands), ← second .position, t) refl
 
         module _ (t : isTerm term ≡ true) where
           pub undeclared : placeOf site term ≡ Absent → MemberReadOf site met at s (Refused 14)
-          unfolding after ask askPredicate
+          unfolding after ask askPredicateUnder
           undeclared place done w =
               rw (subject-passed done w, number-value 11 s middle (second .stands), ← second .position, t, place-absent site term place) refl
 
           module _ {table : ℕ} (place : placeOf site term ≡ At table) where
             predicate-passed : (done : Pattern) → width done ≡ met → triplePattern site done (drop at s) ≡ objectReader met subject (Term term) (drop behind s)
-            unfolding after ask askPredicate
+            unfolding after ask askPredicateUnder
             predicate-passed done w =
                 rw (subject-passed done w, number-value 11 s middle (second .stands), ← second .position, t, place-found site term _ place .2) refl
 

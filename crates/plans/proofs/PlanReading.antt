@@ -13,7 +13,7 @@ use Rattle.model.specs.Reader.{refused, gives, after, ask, repeated, wholeFile}
 use Rattle.model.specs.Store.{Store}
 use Rattle.model.specs.Pattern.{Pattern, mostTriplePatterns}
 use Rattle.model.specs.Plan.{Step, Plan, isPlace, mayChoose, placesOf}
-use Rattle.model.specs.PlanFile.{step, stepNumbers, readPlan}
+use Rattle.model.specs.PlanFile.{stepUnder, step, stepNumbers, readPlanUnder, readPlan}
 use Rattle.model.specs.Calls.{padded, planNumbers}
 use Rattle.model.proofs.Booleans.{and-make}
 use Rattle.model.proofs.Membership.{any-append}
@@ -41,42 +41,42 @@ module _ (pattern : Pattern) (done : Plan) (i : ℕ) where
 
 module _ (store : Store) (pattern : Pattern) (done : Plan) (s : List ℕ) (at : ℕ) where
   pub no-place : numberAt s at ≡ Bad → step store pattern done (drop at s) ≡ refused 18
-  unfolding step after
+  unfolding stepUnder after
   no-place e = rw (number-bad 18 s at e) refl
 
   module _ {i middle : ℕ} (e : numberAt s at ≡ Value i middle) where
     pub place-refused : isOpen pattern done i ≡ false → step store pattern done (drop at s) ≡ refused 19
-    unfolding step after ask
+    unfolding stepUnder after ask
     place-refused t = rw (number-value 18 s at e, t) refl
 
     module _ (t : isOpen pattern done i ≡ true) where
       pub no-choice : numberAt s middle ≡ Bad → step store pattern done (drop at s) ≡ refused 18
-      unfolding step after ask
+      unfolding stepUnder after ask
       no-choice f = rw (number-value 18 s at e, t, number-bad 18 s middle f) refl
 
       module _ {c next : ℕ} (f : numberAt s middle ≡ Value c next) where
         pub choice-refused : mayChoose store pattern i c ≡ false → step store pattern done (drop at s) ≡ refused 20
-        unfolding step after ask
+        unfolding stepUnder after ask
         choice-refused m = rw (number-value 18 s at e, t, number-value 18 s middle f, m) refl
 
         pub step-given : mayChoose store pattern i c ≡ true → step store pattern done (drop at s) ≡ gives (record { place = i; choice = c }, drop next s)
-        unfolding step after ask
+        unfolding stepUnder after ask
         step-given m = rw (number-value 18 s at e, t, number-value 18 s middle f, m) refl
 
 -- ---- the ways out of the file
 
 module _ (store : Store) (pattern : Pattern) (s : List ℕ) where
   pub steps-refused : {n : ℕ} → repeated (step store pattern) (length pattern) [] s ≡ refused n → readPlan store pattern s ≡ refused n
-  unfolding readPlan wholeFile
+  unfolding readPlanUnder wholeFile
   steps-refused q = rw q refl
 
   module _ {plan : Plan} (next : ℕ) (q : repeated (step store pattern) (length pattern) [] s ≡ gives (plan, drop next s)) where
     pub bytes-left : next < length s → readPlan store pattern s ≡ refused 18
-    unfolding readPlan wholeFile
+    unfolding readPlanUnder wholeFile
     bytes-left h = rw (q, drop-cons s next 0 h) refl
 
     pub plan-given : length s ≤ next → readPlan store pattern s ≡ gives plan
-    unfolding readPlan wholeFile
+    unfolding readPlanUnder wholeFile
     plan-given h = rw (q, drop-of-length-le s h) refl
 
 -- ---- a place is noted as taken

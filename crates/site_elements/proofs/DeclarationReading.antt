@@ -11,7 +11,7 @@ use Rattle.model.specs.Lists.{sum, aboveLast}
 use Rattle.model.specs.Reader.{refused, gives, after, ask, repeated}
 use Rattle.model.specs.Numbers.{isTerm}
 use Rattle.model.specs.Site.{mostRows}
-use Rattle.model.specs.SiteFile.{Declaration, declaration}
+use Rattle.model.specs.SiteFile.{Declaration, declarationUnder, declaration}
 use Rattle.model.specs.Store.{vpEntryAt, vpEntries}
 use Rattle.model.proofs.Readers.{repeated-read}
 use Rattle.model.proofs.SiteFile.{declared-few, declared-grow, declaration-reads}
@@ -25,31 +25,31 @@ use Rattle.tables.proofs.Declared.{declared-snoc}
 
 module _ (done : List Declaration) (s : List ℕ) (at : ℕ) where
   pub no-term : numberAt s at ≡ Bad → declaration done (drop at s) ≡ refused 2
-  unfolding declaration after
+  unfolding declarationUnder after
   no-term e = rw (number-bad 2 s at e) refl
 
   module _ {v middle : ℕ} (e : numberAt s at ≡ Value v middle) where
     pub wide-term : isTerm v ≡ false → declaration done (drop at s) ≡ refused 4
-    unfolding declaration after ask
+    unfolding declarationUnder after ask
     wide-term t = rw (number-value 2 s at e, t) refl
 
     module _ (t : isTerm v ≡ true) where
       pub term-below : aboveLast ltb (map (λ d. d .0) done) v ≡ false → declaration done (drop at s) ≡ refused 4
-      unfolding declaration after ask
+      unfolding declarationUnder after ask
       term-below a = rw (number-value 2 s at e, t, a) refl
 
       module _ (a : aboveLast ltb (map (λ d. d .0) done) v ≡ true) where
         pub no-count : numberAt s middle ≡ Bad → declaration done (drop at s) ≡ refused 2
-        unfolding declaration after ask
+        unfolding declarationUnder after ask
         no-count f = rw (number-value 2 s at e, t, a, number-bad 2 s middle f) refl
 
         module _ {w next : ℕ} (f : numberAt s middle ≡ Value w next) where
           pub many-rows : leb (sum (λ d. d .1) done + w) mostRows ≡ false → declaration done (drop at s) ≡ refused 5
-          unfolding declaration after ask
+          unfolding declarationUnder after ask
           many-rows u = rw (number-value 2 s at e, t, a, number-value 2 s middle f, u) refl
 
           pub declaration-given : leb (sum (λ d. d .1) done + w) mostRows ≡ true → declaration done (drop at s) ≡ gives ((v, w), drop next s)
-          unfolding declaration after ask
+          unfolding declarationUnder after ask
           declaration-given u = rw (number-value 2 s at e, t, a, number-value 2 s middle f, u) refl
 
 pub declarations-good : (n : ℕ) (bytes : List ℕ) {ds : List Declaration} {rest : List ℕ} → repeated declaration n [] bytes ≡ gives (ds, rest)

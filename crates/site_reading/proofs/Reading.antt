@@ -10,7 +10,7 @@ use lib.Dec.{leb}
 use Rattle.model.specs.Store.{vpEntryAt}
 use Rattle.model.specs.Reader.{refused, gives, after, ask, repeated, wholeFile, allRead}
 use Rattle.model.specs.Site.{Row, Site, mostPredicates, rowTotal}
-use Rattle.model.specs.SiteFile.{Declaration, declaration, row, tables, siteFile, readSite}
+use Rattle.model.specs.SiteFile.{Declaration, declaration, row, tablesUnder, tables, siteFileUnder, readSiteUnder, readSite}
 use Rattle.model.proofs.Growing.{sum-snoc}
 use Rattle.numbers.specs.NumberAt.{numberAt}
 use Rattle.numbers.specs.declared.number.Number.the-variants.{Value, Bad}
@@ -33,7 +33,7 @@ module _ (image : List ℕ) (count : ℕ) (bytes : List ℕ) where
 
   module _ {i : ℕ} {done : Site} {rest : List ℕ} (part : TablesRead i done rest) where
     pub all-tables : count ≤ i → tables (declaredIn count (drop 3 image)) [] bytes ≡ gives (done, rest)
-    unfolding tables
+    unfolding tablesUnder
     all-tables h = let none : part .left ≡ 0 = omega arith in part .same ∙ rw none refl
 
     -- the entry of the next table
@@ -57,12 +57,12 @@ module _ (image : List ℕ) (count : ℕ) (bytes : List ℕ) where
       table-fits = omega (arith, rows-more)
 
       pub table-refused : {m : ℕ} → repeated row n [] rest ≡ refused m → tables (declaredIn count (drop 3 image)) [] bytes ≡ refused m
-      unfolding tables after
+      unfolding tablesUnder after
       table-refused q = same-more ∙ rw (entry-count, q) refl
 
       pub table-read : {rows : List Row} {rest′ : List ℕ} → repeated row n [] rest ≡ gives (rows, rest′)
           → TablesRead (i + 1) (done ++ record { predicate = getD entry 0 0; rows = rows } ∷ []) rest′
-      unfolding tables after
+      unfolding tablesUnder after
       table-read q =
           let place : vpEntryAt i + 3 ≡ vpEntryAt (i + 1) = omega arith in
           let next : drop 3 entry ≡ drop (vpEntryAt (i + 1)) image = drop-drop 3 (vpEntryAt i) image ∙ ap (λ (k : ℕ). drop k image) place in
@@ -77,20 +77,20 @@ module _ (image : List ℕ) (count : ℕ) (bytes : List ℕ) where
 
 module _ (s : List ℕ) where
   pub no-predicates : numberAt s 0 ≡ Bad → readSite s ≡ refused 2
-  unfolding readSite wholeFile siteFile after
+  unfolding readSiteUnder wholeFile siteFileUnder after
   no-predicates e = rw (number-bad 2 s 0 e) refl
 
   module _ {p at : ℕ} (e : numberAt s 0 ≡ Value p at) where
     pub many-predicates : leb p mostPredicates ≡ false → readSite s ≡ refused 3
-    unfolding readSite wholeFile siteFile after ask
+    unfolding readSiteUnder wholeFile siteFileUnder after ask
     many-predicates t = rw (number-value 2 s 0 e, t) refl
 
     module _ (t : leb p mostPredicates ≡ true) where
       pub declarations-refused : {n : ℕ} → repeated declaration p [] (drop at s) ≡ refused n → readSite s ≡ refused n
-      unfolding readSite wholeFile siteFile after ask
+      unfolding readSiteUnder wholeFile siteFileUnder after ask
       declarations-refused q = rw (number-value 2 s 0 e, t, q) refl
 
       pub declarations-read : {ds : List Declaration} {rest : List ℕ} → repeated declaration p [] (drop at s) ≡ gives (ds, rest)
           → readSite s ≡ allRead 8 (tables ds [] rest)
-      unfolding readSite wholeFile siteFile after ask
+      unfolding readSiteUnder wholeFile siteFileUnder after ask
       declarations-read q = rw (number-value 2 s 0 e, t, q) refl

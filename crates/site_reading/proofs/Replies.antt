@@ -10,7 +10,7 @@ use Rattle.model.specs.Site.{Site}
 use Rattle.model.specs.SiteFile.{readSite}
 use Rattle.model.specs.Tables.{mostThreshold}
 use Rattle.model.specs.Store.{layout}
-use Rattle.model.specs.Calls.{outcome, over, either, unaltered, filled, build}
+use Rattle.model.specs.Calls.{outcome, over, either, unaltered, filled, buildUnder, build}
 use Rattle.model.specs.declared.answer.Answer.the-variants.{Built}
 use Rattle.model.proofs.SiteFile.{site-file}
 use Rattle.site_reading.specs.Image.{SiteReadAs}
@@ -40,15 +40,15 @@ site-read bytes image {count = count} long h e =
 module _ (t : ℕ) (memory : List ℕ) where
   module _ (bytes : List ℕ) where
     pub threshold-refused : mostThreshold < t → build t bytes memory ≡ unaltered memory 1
-    unfolding build either
+    unfolding buildUnder either
     threshold-refused h = rw (lt-leb t mostThreshold h) refl
 
     pub file-refused : {n : ℕ} → t ≤ mostThreshold → readSite bytes ≡ refused n → build t bytes memory ≡ unaltered memory n
-    unfolding build either
+    unfolding buildUnder either
     file-refused h e = rw (le-leb t mostThreshold h, e) refl
 
     pub file-given : {site : Site} → t ≤ mostThreshold → readSite bytes ≡ gives site → build t bytes memory ≡ filled t site memory
-    unfolding build either
+    unfolding buildUnder either
     file-given h e = rw (le-leb t mostThreshold h, e) refl
 
   module _ (site : Site) where

@@ -11,7 +11,7 @@ use lib.Dec.{leb}
 use borrow.Author.Tests.{le-leb}
 use Rattle.model.specs.Lists.{all, sum, sameWords}
 use Rattle.model.specs.SiteFile.{Declaration, declaredProper, declarationOf, declarations}
-use Rattle.model.specs.Site.{Site, isSite, rowTotal, predicatesProper, rowsProper, mostPredicates, mostRows}
+use Rattle.model.specs.Site.{Site, isSiteUnder, isSite, rowTotal, predicatesProper, rowsProper, mostPredicates, mostRows}
 use Rattle.model.specs.Tables.{kindCount, mostThreshold}
 use Rattle.model.specs.Store.{semiJoins, vpEntries, semiJoinEntries, rowsStart, storedStart, vpWords, storedWords, layout, wordsUsed, Holds, tablesIn, decoded, isStoreOf, vpEntryAt, vpEntries}
 use Rattle.model.proofs.Booleans.{and-cases, and-make, bool-ext}
@@ -131,7 +131,7 @@ module _ (w : List ℕ) (x : Parts w) where
 
   -- what is left to ask is the rows
   site-by-rows : isSite site ≡ all (λ t. rowsProper (t .rows)) site
-  unfolding isSite
+  unfolding isSiteUnder
   site-by-rows =
       let y = and-cases (predicatesProper site) (leb (rowTotal site) mostRows) (sym (declared-site site) ∙ ap declaredProper (in-words .0) ∙ asked .0) in
       let few : leb (length site) mostPredicates ≡ true = le-leb (length site) mostPredicates (rw size (x .few)) in

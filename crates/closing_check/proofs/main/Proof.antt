@@ -32,7 +32,7 @@ slice-aggregate-show-3 : tie.Need-slice-aggregate-show-3
 slice-aggregate-show-3 c = search needs
 
 show-requires : tie.Need-show-requires
-show-requires c κs = (c .before .before .before .before .before .before .before .before .read-file .ensures, c .before .before .before .before .read-file2 .ensures, omega arith)
+show-requires c κs = (c .before .before .before .before .before .before .before .before .read-file .ensures, c .before .before .before .before .read-file2 .ensures, omega arith, omega arith, omega arith)
 
 array-share-prefix-out : tie.Need-array-share-prefix-out
 array-share-prefix-out c = search needs

@@ -3,7 +3,7 @@ use mathlib.Core.Path.{_≡_}
 use mathlib.Core.List.{[], _∷_, map}
 use Rattle.model.specs.Lists.{concatMap}
 use Rattle.model.proofs.Cases.{Hold, cases, worked}
-use Rattle.model.proofs.AnswerCases.{refusedSites, siteRefusal, sites-refused, buildCases, builds-worked, refusedChecks, checkRefusals, checks-refused, refusedPlans, planRefusals, plans-refused, runCases, runs-worked, shopJoined, met, first-step, plannerCases, plans-worked, printedCases, printed-worked}
+use Rattle.model.proofs.AnswerCases.{refusedSites, siteRefusal, sites-refused, buildCases, builds-worked, refusedChecks, checkRefusals, checks-refused, refusedPlans, planRefusals, plans-refused, runCases, runs-worked, shopJoined, met, first-step, plannerCases, plans-worked, widenedCases, widened-worked, printedCases, printed-worked}
 
 -- ==== The worked shop: cases (a) to (j)
 
@@ -30,6 +30,14 @@ Answers-Hold = Hold buildCases × Hold runCases × Hold plannerCases × Hold pri
 
 pub answers-hold : Answers-Hold
 answers-hold = (builds-worked, runs-worked, plans-worked, printed-worked)
+
+-- ==== S-9: what document 01's limits refuse with 2, 4, 6, 10, 11, 13, 15 and 18, and what is answered now
+
+abbrev pub Wider-Answers-Hold : Type 0
+Wider-Answers-Hold = Hold widenedCases
+
+pub wider-answers-hold : Wider-Answers-Hold
+wider-answers-hold = widened-worked
 
 -- ==== A step keeps each partial solution with each row of its table that agrees: choice 4 at place 0 of the shop's check gives the two
 -- rows of the reduced table, and not the three of VP

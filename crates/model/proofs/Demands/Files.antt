@@ -19,6 +19,7 @@ use Rattle.model.specs.PatternFile.{readPattern, patternBytes}
 use Rattle.model.specs.Plan.{isProper}
 use Rattle.model.specs.PlanFile.{readPlan, planBytes}
 use Rattle.model.specs.Files.{takenSize, taken}
+use Rattle.model.specs.Chain.{siteBufferBytes, checkBufferBytes}
 use Rattle.model.proofs.Patterns.{pattern-limit}
 use Rattle.model.proofs.SiteFile.{site-file}
 use Rattle.model.proofs.PatternFile.{pattern-accepted, pattern-file}
@@ -39,12 +40,12 @@ Files-Are-Exact =
 pub files-are-exact : Files-Are-Exact
 files-are-exact = (site-file, pattern-file, λ store pattern accepted. plan-file store pattern (pattern-limit (store .site) pattern accepted))
 
--- an accepted site has fewer than 8,192 bytes and an accepted check fewer than 128, the sizes of the check program's buffers: so a file
+-- an accepted site and an accepted check are shorter than the check program's buffers: so a file
 -- that is cut there is refused, and one that is accepted was read to its end
 abbrev pub Files-Are-Short : Type 0
 Files-Are-Short =
-    ((bytes : List ℕ) (site : Site) → areBytes bytes ≡ true → readSite bytes ≡ gives site → length bytes < 8192)
-    × ((site : Site) (bytes : List ℕ) (pattern : Pattern) → areBytes bytes ≡ true → readPattern site bytes ≡ gives pattern → length bytes < 128)
+    ((bytes : List ℕ) (site : Site) → areBytes bytes ≡ true → readSite bytes ≡ gives site → length bytes < siteBufferBytes)
+    × ((site : Site) (bytes : List ℕ) (pattern : Pattern) → areBytes bytes ≡ true → readPattern site bytes ≡ gives pattern → length bytes < checkBufferBytes)
 
 pub files-are-short : Files-Are-Short
 files-are-short = (

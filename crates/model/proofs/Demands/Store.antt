@@ -13,7 +13,7 @@ use Rattle.model.specs.Site.{Row, Site, isSite, rowTotal, noTable, table
 use Rattle.model.specs.SiteFile.{readSite}
 use Rattle.model.specs.Tables.{vp, semiJoin, kindAt, kindCount, mostThreshold, isStored}
 use Rattle.model.specs.Store.{Reduced, semiJoins, storedRows, storedTotal, tableWords, vpEntryAt, semiJoinEntryAt, semiJoinsBefore, rowsStart, layout, mostStoreWords, Holds, IsStore, Store, storeAt, storeOf}
-use Rattle.model.specs.Calls.{Outcome, either, unaltered, build}
+use Rattle.model.specs.Calls.{Outcome, either, unaltered, buildUnder, build}
 use Rattle.model.specs.declared.answer.Answer.the-variants.{Refused}
 use Rattle.model.proofs.Membership.{at-place}
 use Rattle.model.proofs.Partition.{vp-table}
@@ -153,7 +153,7 @@ Store-Words-Suffice =
     × ((t : ℕ) (bytes memory : List ℕ) → mostStoreWords ≤ length memory → build t bytes memory .answer ≡ Refused 9 → ⊥)
 
 pub store-words-suffice : Store-Words-Suffice
-unfolding build either
+unfolding buildUnder either
 store-words-suffice = (
   refl,
   λ t bytes memory room. by-question NotNine (unaltered memory) 1 (leb t mostThreshold) _ (other 1 (omega arith))

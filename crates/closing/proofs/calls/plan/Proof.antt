@@ -1,7 +1,7 @@
 -- Each return by what was read: a refusal, or a check.
 use mathlib.Core.Path.{sym, _∙_}
 use borrow.Author.Needs.{needs}
-use Rattle.model.specs.Calls.{plan}
+use Rattle.model.specs.Calls.{planUnder}
 use Rattle.closing.proofs.Checks.{after-refusal, after-check, check-given}
 use Rattle.closing.proofs.calls.plan.Statement.{statement}
 use Rattle.closing.proofs.calls.plan.Tie as tie
@@ -13,7 +13,7 @@ refused-plan-requires : tie.Need-refused-plan-requires
 refused-plan-requires c κs = search needs
 
 returns : tie.Need-returns
-unfolding plan
+unfolding planUnder
 returns c =
     let test = c .before in
     c .refused-plan .ensures ∙ sym (after-refusal _ _ _ (test .before .checked .ensures) _ _ (test .if1 .taken))
@@ -24,7 +24,7 @@ plan-pattern-requires c κs =
     (validated, holds)
 
 returns-2 : tie.Need-returns-2
-unfolding plan
+unfolding planUnder
 returns-2 c =
     let test = c .before in
     rw (c .plan-pattern .ensures) (sym (after-check _ _ _ (test .before .checked .ensures) _ _ (test .if1 .left)))

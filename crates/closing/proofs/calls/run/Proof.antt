@@ -1,7 +1,7 @@
 -- Each return by what was read: a refusal of the check or of the plan, or both given; then by the counts.
 use mathlib.Core.Path.{sym, _∙_}
 use borrow.Author.Needs.{needs}
-use Rattle.model.specs.Calls.{run}
+use Rattle.model.specs.Calls.{runUnder}
 use Rattle.closing.proofs.Checks.{check-given}
 use Rattle.closing.proofs.GivenPlans.{check-refused, plan-refused, steps-given, run-none, run-rows}
 use Rattle.closing.proofs.calls.run.Statement.{statement}
@@ -11,7 +11,7 @@ checked-requires : tie.Need-checked-requires
 checked-requires c κs = search needs
 
 returns : tie.Need-returns
-unfolding run
+unfolding runUnder
 returns c = sym (check-refused _ _ _ _ (c .before .checked .ensures) _ _ (c .if1 .taken))
 
 prepare-requires : tie.Need-prepare-requires
@@ -25,7 +25,7 @@ abbrev accepted : tie.After-prepare → tie.Else1
 accepted g = g .before .before .before .before .before .before
 
 returns-2 : tie.Need-returns-2
-unfolding run
+unfolding runUnder
 returns-2 c =
     let g = c .before in
     let check = accepted g in

@@ -11,7 +11,7 @@ use Rattle.model.proofs.Booleans.{and-cases, to-false}
 use mathlib.Core.Path.{refl}
 use borrow.Author.Tests.{lt-leb, le-leb, lt-ltb}
 use Rattle.model.specs.Reader.{ask}
-use Rattle.model.specs.PatternFile.{askPosition}
+use Rattle.model.specs.PatternFile.{askPositionUnder}
 use borrow.Author.Needs.{needs}
 use Rattle.positions.proofs.positions.position_refusal.Statement.{statement}
 use Rattle.positions.proofs.positions.position_refusal.Tie as tie
@@ -28,22 +28,22 @@ enum-known-x : tie.Need-enum-known-x
 enum-known-x c = search needs
 
 returns : tie.Need-returns
-unfolding askPosition ask
+unfolding askPositionUnder ask
 returns c = rw (c .before .before .x .given .1, lt-leb _ _ (c .if1 .taken)) refl
 
 enum-known-x-2 : tie.Need-enum-known-x-2
 enum-known-x-2 c = search needs
 
 returns-2 : tie.Need-returns-2
-unfolding askPosition ask
+unfolding askPositionUnder ask
 returns-2 c = rw (c .before .before .x2 .given .1, not-next _ _ (⊎-elim (λ w. inl (w .taken)) (λ w. inr (ltb-true _ _ (w .1 .taken))) (c .if2 .came))) refl
 
 returns-3 : tie.Need-returns-3
-unfolding askPosition ask
+unfolding askPositionUnder ask
 returns-3 c = rw (c .before .before .x .given .1, le-leb _ _ (c .if1 .left)) refl
 
 returns-4 : tie.Need-returns-4
-unfolding askPosition ask
+unfolding askPositionUnder ask
 returns-4 c = rw (c .before .before .before .x2 .given .1, lt-ltb _ _ (c .before .if2 .left), le-leb _ _ (ltb-false _ _ (c .if3 .left))) refl
 
 pub position-refusal-spec : {M : Type 1} → statement M
