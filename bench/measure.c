@@ -3,8 +3,8 @@
  *   call, site, rows of the site, check, triple patterns, rows of the answer (-1 for none by refusal 21; of whether 1 for yes, 0 for no), then
  *   for each engine (ours, plain C by the same algorithm, the archive of before, plain C at its best, SQLite, SQLite with its check) the
  *   median, the two quartiles and the least in nanoseconds; 0 where an engine has no such call or is not timed.
- * `measure --before` times two engines only, ours and the archive of before; a call that this has not is left out. `measure --best` times
- * ours and plain C at its best, checks only.
+ * `measure --before` times two engines only, ours and the archive of before; a call that this has not, or a site that it refuses, is left
+ * out. `measure --best` times ours and plain C at its best, checks only.
  * `measure --inputs` prints the sites and the checks in hexadecimal and times nothing.
  * All engines run in one process; their repeats, and those of all calls of a check, are interleaved, so that what slows the machine slows
  * them alike. */
@@ -33,6 +33,7 @@ static uint64_t answer[4];
 static const struct named_file *check;
 static struct peer *peer;
 static int beside = -1; /* the only engine that is timed beside ours, if there is one */
+static int has_before;  /* the archive of before accepts the site */
 
 /* ---- what is timed */
 
@@ -112,7 +113,7 @@ struct line {
 enum { MOST_LINES = 3 };
 
 static int is_timed(const struct line *line, int engine) {
-    return line->engine[engine] && (beside < 0 || engine == ENGINE || engine == beside);
+    return line->engine[engine] && (engine != BEFORE || has_before) && (beside < 0 || engine == ENGINE || engine == beside);
 }
 
 static double time_of(call *f, uint32_t repeats) {
@@ -161,7 +162,7 @@ static uint32_t other[ROW_WORDS];
 
 /* An archive that answers otherwise, as one for which this is no store, is no measure of this one. */
 static void require_before(uint32_t number, uint32_t their_number, const uint64_t theirs[4]) {
-    require(their_number == number && memcmp(theirs, answer, sizeof answer) == 0, "the archive of before answers otherwise");
+    require(!has_before || (their_number == number && memcmp(theirs, answer, sizeof answer) == 0), "the archive of before answers otherwise");
 }
 
 /* The rows that the engine gives are SQLite's; -1 where they do not fit. */
@@ -232,6 +233,9 @@ int main(int argc, char **argv) {
             print_inputs();
             continue;
         }
+        has_before = before_build(1000, workload.site.file.byte, workload.site.file.size, store, STORE_WORDS, answer) == 0;
+        if (beside == BEFORE && !has_before)
+            continue;
         check = NULL;
         closing_builds();
         used = (size_t)answer[1];

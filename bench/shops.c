@@ -32,7 +32,7 @@ enum { COVERS = 1, IN = 2, STATE = 3, BATTERY = 4, CLOSED = 40, OPEN = 41, AJAR 
 enum { FIRST_SENSOR = 1000, FIRST_DOOR = 3000, FIRST_ZONE = 5000 };
 
 /* Other numbers for the terms of a shop: none; by first appearance, as tools/site_text.py numbers names, so that sensors and doors take
- * turns; or with gaps everywhere, in another order. */
+ * turns; or with gaps everywhere, in another order, over 16 bits or over 24. */
 typedef uint32_t renaming(uint32_t t);
 
 static uint32_t as_numbered(uint32_t t) {
@@ -49,6 +49,10 @@ static uint32_t by_appearance(uint32_t t) {
 
 static uint32_t scattered(uint32_t t) {
     return (uint32_t)((uint64_t)t * 40503 % 65521);
+}
+
+static uint32_t widely_scattered(uint32_t t) {
+    return (uint32_t)((uint64_t)t * 10368889 % 16777213);
 }
 
 /* The shapes of the S2RDF paper over a shop: star, path, snowflake and a cross join; none, few and many rows. */
@@ -183,6 +187,10 @@ void make_workload(size_t k, struct workload *w) {
     case 10:
     case 11:
         make_shop(w, "scattered shop of %u rows", k == 10 ? 256 : 1024, scattered);
+        break;
+    case 12:
+    case 13:
+        make_shop(w, "24-bit shop of %u rows", k == 12 ? 256 : 1024, widely_scattered);
         break;
     default:
         make_shop(w, "shop of %u rows", 4u << (2 * k), as_numbered);

@@ -4,7 +4,7 @@
 
 #include "files.h"
 
-enum { SITES = 12, CHECKS = 12 };
+enum { SITES = 14, CHECKS = 12 };
 
 struct named_file {
     char name[40];
@@ -19,7 +19,7 @@ struct workload {
 };
 
 /* The k-th of SITES: the worked shop, shops of 16, 64, 256 and 1,024 rows, the worst sites for semi-joins, and shops whose
- * columns have gaps: their terms numbered by first appearance, or scattered. */
+ * columns have gaps: their terms numbered by first appearance, or scattered over 16 bits or over 24. */
 void make_workload(size_t k, struct workload *workload);
 
 #endif

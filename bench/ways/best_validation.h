@@ -14,48 +14,80 @@ static bool read_columns(const uint32_t *row, size_t n, struct column *columns) 
         all |= subject | object;
         low = (int32_t)object < low ? (int32_t)object : low;
         high = (int32_t)object > high ? (int32_t)object : high;
-        falls |= (row[i - 2] << 16 | row[i - 1]) >= (subject << 16 | object);
-        gaps |= (int32_t)(subject - row[i - 2]) > 1;
+        /* of terms the top bit of a difference is set where it is below 0: the object ascends; neither it nor the subject does; a gap */
+        const uint32_t step = subject - row[i - 2], ascends = (row[i - 1] - object) >> 31;
+        falls |= step - 1 + ascends;
+        gaps |= 1 - step;
     }
-    columns[0] = (struct column){row[0], row[2 * n - 2], gaps == 0};
+    columns[0] = (struct column){row[0], row[2 * n - 2], gaps >> 31 == 0};
     columns[1] = (struct column){(uint32_t)low, (uint32_t)high, false};
-    return all <= MOST_TERM && falls == 0;
+    return all <= MOST_TERM && falls >> 31 == 0;
 }
 
-/* A bit for each term from `base` on: those that a column has. As many words as the engine has for the objects; a column that spans more
- * terms is asked twice. The bit behind the last stays clear, for terms that are outside. Words are cleared once in a call, and then where
- * bits were set. */
-struct window { const uint32_t *held; size_t n, cleared; uint32_t base, size, bits[MOST_ROWS + 1]; };
-enum { WINDOW_TERMS = 32 * MOST_ROWS };
+/* The terms that a column has, in as many words as the engine has for the objects. Where it spans few enough, a bit for each term from
+ * `base` on; the bit behind the last stays clear, for terms that are outside. Words are cleared once in a call, and then where bits were
+ * set. Where it spans more, two bytes for each slot of a hash table: one more than the row that has the term. */
+enum { WINDOW_TERMS = 32 * MOST_ROWS, SLOTS = 2 * MOST_ROWS };
+struct window {
+    const uint32_t *held;
+    size_t n, cleared;
+    uint32_t base, size;
+    bool hashed;
+    union { uint32_t bits[MOST_ROWS + 1]; uint16_t slots[SLOTS]; } of;
+};
 
 static void forget(struct window *window) {
-    const uint32_t base = window->base, size = window->size, *held = window->held;
-    for (const uint32_t *end = held + 2 * window->n; held != end; held += 2)
-        if (*held - base < size) window->bits[(*held - base) / 32] = 0;
+    const uint32_t base = window->base, *held = window->held;
+    for (const uint32_t *end = held + 2 * window->n; held != end; held += 2) window->of.bits[(*held - base) / 32] = 0;
     window->n = 0;
 }
 
-/* The column's terms from `base` on; gives how many there are. */
+/* The column's terms, from `base` to `high`, fewer than a window holds; gives how many there are. */
 static uint32_t hold(struct window *window, const uint32_t *column, size_t n, uint32_t base, uint32_t high) {
-    const uint32_t size = high - base < WINDOW_TERMS ? high - base + 1 : WINDOW_TERMS, words = size / 32 + 1;
+    const uint32_t size = high - base + 1, words = size / 32 + 1;
     uint32_t terms = 0;
     forget(window);
     window->held = column;
     window->n = n;
+    window->hashed = false;
     window->base = base;
     window->size = size;
     if (window->cleared < words) {
-        memset(window->bits + window->cleared, 0, (words - window->cleared) * sizeof *window->bits);
+        memset(window->of.bits + window->cleared, 0, (words - window->cleared) * sizeof *window->of.bits);
         window->cleared = words;
     }
     for (size_t i = 0; i < n; i++) {
         const uint32_t at = column[2 * i] - base;
-        if (at >= size) continue;
-        uint32_t *word = &window->bits[at / 32];
+        uint32_t *word = &window->of.bits[at / 32];
         terms += (*word >> at % 32 & 1) ^ 1;
         *word |= 1u << at % 32;
     }
     return terms;
+}
+
+/* The upper bits of a product depend on all bits of the term. */
+static uint32_t slot_of(uint32_t term) { return term * 0x9E3779B1u >> 21; }
+
+/* The slot that has the term, or an empty one. */
+static uint32_t find_slot(const struct window *window, uint32_t term) {
+    uint32_t at = slot_of(term);
+    while (window->of.slots[at] != 0 && window->held[2 * (window->of.slots[at] - 1u)] != term) at = (at + 1) % SLOTS;
+    return at;
+}
+
+static void hash_terms(struct window *window, const uint32_t *column, size_t n) {
+    memset(window->of.slots, 0, sizeof window->of.slots);
+    window->held = column;
+    for (size_t i = 0; i < n; i++) window->of.slots[find_slot(window, column[2 * i])] = (uint16_t)(i + 1);
+    window->n = window->cleared = 0;
+    window->hashed = true;
+}
+
+/* 1 where the column has the term, else 0. */
+static inline uint32_t is_held(const struct window *window, uint32_t term, bool hashed) {
+    if (hashed) return window->of.slots[find_slot(window, term)] != 0;
+    const uint32_t at = term - window->base < window->size ? term - window->base : window->size;
+    return window->of.bits[at / 32] >> at % 32 & 1;
 }
 
 /* Whether each stored row is one of the rows, in their order. */
@@ -74,14 +106,9 @@ static bool holds_between(const uint32_t *store, const uint32_t *entry, const ui
 /* A column of n rows: every other word. */
 struct words { const uint32_t *first; size_t n; };
 
-static uint32_t count_held(const struct window *window, struct words column) {
-    const uint32_t base = window->base, size = window->size;
+static inline uint32_t count_held(const struct window *window, struct words column, bool hashed) {
     uint32_t kept = 0;
-    for (size_t i = 0; i < column.n; i++) {
-        uint32_t at = column.first[2 * i] - base;
-        at = at < size ? at : size;
-        kept += window->bits[at / 32] >> at % 32 & 1;
-    }
+    for (size_t i = 0; i < column.n; i++) kept += is_held(window, column.first[2 * i], hashed);
     return kept;
 }
 
@@ -135,38 +162,20 @@ static bool is_answered_few(const struct asked *asked, struct words partners) {
 }
 
 /* The same with all the partners' terms in the window, row by row: the stored rows are walked with those that have a partner. */
-static bool is_answered_held(const struct asked *asked, const struct window *window) {
-    if (asked->entry[1] == 0) return count_held(window, rows_asked(asked)) == asked->entry[0];
-    const uint32_t base = window->base, size = window->size, left = asked->entry[0];
+static inline bool is_answered_row_by_row(const struct asked *asked, const struct window *window, bool hashed) {
+    if (asked->entry[1] == 0) return count_held(window, rows_asked(asked), hashed) == asked->entry[0];
+    const uint32_t left = asked->entry[0];
     uint32_t kept = 0, differs = 0;
     for (const uint32_t *row = asked->rows, *end = row + 2 * asked->n; row != end; row += 2) {
-        uint32_t at = row[asked->own] - base;
-        at = at < size ? at : size;
-        const uint32_t is_kept = window->bits[at / 32] >> at % 32 & 1, *stored = asked->stored + 2 * (kept < left ? kept : 0);
+        const uint32_t is_kept = is_held(window, row[asked->own], hashed), *stored = asked->stored + 2 * (kept < left ? kept : 0);
         differs |= is_kept & (uint32_t)((stored[0] != row[0]) | (stored[1] != row[1]));
         kept += is_kept;
     }
     return kept == left && differs == 0;
 }
 
-/* The semi-joins against a column of so many terms that they are asked in two windows; a bit 2p + own for each that is open. */
-static bool answered_by_windows(const uint32_t *store, size_t count, size_t q, size_t other, struct column of, uint32_t open, struct window *window) {
-    uint32_t kept[2 * MOST_PREDICATES] = {0}, stored_kept[2 * MOST_PREDICATES] = {0};
-    const uint32_t *table = store + 3 + 3 * q;
-    for (uint32_t base = of.low; base <= of.high; base += WINDOW_TERMS) {
-        hold(window, store + table[2] + other, table[1], base, of.high);
-        for (size_t at = 0; at < 2 * count; at++) {
-            if ((open >> at & 1) == 0) continue;
-            const struct asked asked = asked_of(store, count, at, q, other);
-            kept[at] += count_held(window, rows_asked(&asked));
-            stored_kept[at] += count_held(window, stored_asked(&asked));
-        }
-    }
-    for (size_t at = 0; at < 2 * count; at++) {
-        const struct asked asked = asked_of(store, count, at, q, other);
-        if ((open >> at & 1) != 0 && !is_answered(&asked, kept[at], stored_kept[at])) return false;
-    }
-    return true;
+static bool is_answered_held(const struct asked *asked, const struct window *window) {
+    return window->hashed ? is_answered_row_by_row(asked, window, true) : is_answered_row_by_row(asked, window, false);
 }
 
 /* The semi-joins against one column that are open. */
@@ -178,8 +187,8 @@ static bool open_hold(const uint32_t *store, size_t count, size_t q, size_t othe
     if (!of.gapless && partners.n > FEW && of.high - of.low < partners.n)
         of.gapless = hold(window, partners.first, partners.n, of.low, of.high) == of.high - of.low + 1;
     else if (!of.gapless && partners.n > FEW) {
-        if (of.high - of.low >= WINDOW_TERMS) return answered_by_windows(store, count, q, other, of, open, window);
-        hold(window, partners.first, partners.n, of.low, of.high);
+        if (of.high - of.low < WINDOW_TERMS) hold(window, partners.first, partners.n, of.low, of.high);
+        else hash_terms(window, partners.first, partners.n);
     }
     for (size_t at = 0; at < 2 * count; at++) {
         if ((open >> at & 1) == 0) continue;
@@ -220,6 +229,7 @@ static bool site_holds(const uint32_t *store, size_t count, size_t here, size_t 
     struct window window;
     window.held = store;
     window.n = window.cleared = window.base = window.size = 0;
+    window.hashed = false;
     for (size_t i = 0; i < count; i++)
         if (!read_columns(store + store[3 + 3 * i + 2], store[3 + 3 * i + 1], columns + 2 * i)) return false;
     if (!entries_hold(store, count, columns, here, used, open)) return false;
