@@ -74,9 +74,9 @@ def cases():
         yield 1000, b'\x01\x05\x01' + number(term) + b'\x01', 16
         yield 1000, b'\x01\x05\x01\x01' + number(term), 16
         yield 1000, b'\x01\x05\x01' + number(term) + number(term), 32
-    # terms that are equal in their last 16 bits, or in their last 10
+    # terms that are equal in their last 23, 16 or 10 bits
     for threshold in (1000, 400, 0):
-        yield threshold, site_file(SPREAD), 200
+        yield threshold, site_file(SPREAD), 240
     yield 1000, b'\x01\x05' + number(1024), 8
     yield 1000, b'\x01\x05' + number(1025), 8
     yield 1000, b'\x02\x05' + number(1000) + b'\x06' + number(24), 8

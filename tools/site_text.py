@@ -5,7 +5,8 @@ Usage: site_text.py write FOLDER  reads FOLDER/site.txt and FOLDER/check.txt, wr
        site_text.py show FOLDER   reads what the check program printed from standard input, prints it with FOLDER's names
 
 site.txt holds a fact per line, `subject predicate object`. `declare PREDICATE` declares a predicate that may have no facts, and
-`NAME = NUMBER` gives a name its term; other names get the lowest free numbers, from 1 on, in order of first appearance.
+`NAME = NUMBER` gives a name its term, as a sensor its radio serial; other names get the lowest free numbers, from 1 on, in order of first
+appearance.
 check.txt holds a triple pattern per line, in the names of site.txt; a word that begins with ? is a variable.
 A word of digits is that term itself, and # begins a comment.
 """

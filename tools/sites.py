@@ -28,11 +28,11 @@ STAR_OF_TERMS = bytes.fromhex('03 01 04 3C 01 02 03 03 06 52')
 NONE_BY_COUNTS = bytes.fromhex('02 01 04 03 03 02 05')
 # two predicates with a row each, so that a case is small
 SMALL_WORDS = layout(1000, [(1, [(1, 2)]), (2, [(2, 3)])])
-# Terms that are equal in their last 16 bits or in their last 10, of predicates that are so too: taken for equal, they would change every semi-join.
-FAR = 2**24 - 65536
+# Terms that are equal in their last 23, 16 or 10 bits, of predicates that are so too: taken for equal, they would change every semi-join.
+FAR, HALF = 2**24 - 65536, 2**23
 SPREAD = [
-    (1, [(5, 65541), (5, FAR + 9), (1029, 7), (65541, 1029), (FAR + 5, 65543)]),
-    (65537, [(7, 5), (1029, 65541), (65541, 2053), (FAR + 7, FAR + 5)]),
+    (1, [(5, 65541), (5, FAR + 9), (1029, 7), (65541, 1029), (HALF + 5, HALF + 7), (FAR + 5, 65543)]),
+    (65537, [(7, 5), (1029, 65541), (65541, 2053), (HALF + 1029, HALF + 5), (FAR + 7, FAR + 5)]),
     (FAR + 1, [(5, FAR + 5), (65541, FAR + 7), (FAR + 9, 65541)]),
 ]
 # ?0 1 ?1, ?1 65,537 ?2; and ?0 1 ?1, ?0 16,711,681 ?2, ?3 65,537 ?2

@@ -260,6 +260,10 @@ runs-worked = refl
 
 -- ---- wider limits: what the limits of document 01 refuse, and what is answered now
 
+-- predicate 0 with the row s o, which are not equal
+abbrev pub oneRowApart : ℕ → ℕ → List ℕ
+oneRowApart s o = 1 ∷ 1000 ∷ 14 ∷ 0 ∷ 1 ∷ 12 ∷ 1 ∷ 0 ∷ 0 ∷ 0 ∷ 0 ∷ 0 ∷ s ∷ o ∷ []
+
 abbrev pub widenedCases : List Case
 widenedCases =
     -- four bytes of a number were too many: 2, and now 3; predicate 65,536 was 4, subject and object 65,536 were 6
@@ -267,8 +271,10 @@ widenedCases =
     ∷ (build 1000 (0x80 ∷ 0x80 ∷ 0x80 ∷ 0x01 ∷ []) [], outcome (Refused 3) [])
     ∷ (buildUnder limitsOf01 1000 (0x01 ∷ 0x80 ∷ 0x80 ∷ 0x04 ∷ 0x00 ∷ []) (lent 12), outcome (Refused 4) (lent 12))
     ∷ (build 1000 (0x01 ∷ 0x80 ∷ 0x80 ∷ 0x04 ∷ 0x00 ∷ []) (lent 12), outcome (Built 12) (1 ∷ 1000 ∷ 12 ∷ 65536 ∷ 0 ∷ 12 ∷ replicate 6 0))
-    ∷ (buildUnder limitsOf01 1000 (0x01 ∷ 0x00 ∷ 0x01 ∷ 0x80 ∷ 0x80 ∷ 0x04 ∷ 0x80 ∷ 0x80 ∷ 0x04 ∷ []) (lent 14), outcome (Refused 6) (lent 14))
-    ∷ (build 1000 (0x01 ∷ 0x00 ∷ 0x01 ∷ 0x80 ∷ 0x80 ∷ 0x04 ∷ 0x80 ∷ 0x80 ∷ 0x04 ∷ []) (lent 14), outcome (Built 14) (oneRow 65536))
+    ∷ (buildUnder limitsOf01 1000 (0x01 ∷ 0x00 ∷ 0x01 ∷ 0x80 ∷ 0x80 ∷ 0x04 ∷ 0x01 ∷ []) (lent 14), outcome (Refused 6) (lent 14))
+    ∷ (build 1000 (0x01 ∷ 0x00 ∷ 0x01 ∷ 0x80 ∷ 0x80 ∷ 0x04 ∷ 0x01 ∷ []) (lent 14), outcome (Built 14) (oneRowApart 65536 1))
+    ∷ (buildUnder limitsOf01 1000 (0x01 ∷ 0x00 ∷ 0x01 ∷ 0x01 ∷ 0x80 ∷ 0x80 ∷ 0x04 ∷ []) (lent 14), outcome (Refused 6) (lent 14))
+    ∷ (build 1000 (0x01 ∷ 0x00 ∷ 0x01 ∷ 0x01 ∷ 0x80 ∷ 0x80 ∷ 0x04 ∷ []) (lent 14), outcome (Built 14) (oneRowApart 1 65536))
     -- words that were no store
     ∷ (runUnder limitsOf01 (oneRow 65536) [] [] [], outcome (Refused 10) [])
     ∷ (run (oneRow 65536) [] [] [], outcome (Refused 11) [])

@@ -40,8 +40,8 @@ Files-Are-Exact =
 pub files-are-exact : Files-Are-Exact
 files-are-exact = (site-file, pattern-file, λ store pattern accepted. plan-file store pattern (pattern-limit (store .site) pattern accepted))
 
--- an accepted site and an accepted check are shorter than the check program's buffers: so a file
--- that is cut there is refused, and one that is accepted was read to its end
+-- an accepted site and an accepted check are shorter than the check program's buffers: so a file that is cut there is refused, and one
+-- that is accepted was read to its end
 abbrev pub Files-Are-Short : Type 0
 Files-Are-Short =
     ((bytes : List ℕ) (site : Site) → areBytes bytes ≡ true → readSite bytes ≡ gives site → length bytes < siteBufferBytes)

@@ -6,9 +6,9 @@ use Rattle.model.specs.Tables.{mostThreshold}
 use Rattle.model.specs.Pattern.{mostTriplePatterns, mostVariables}
 use Rattle.model.specs.Chain.{chainThreshold, siteBufferBytes, checkBufferBytes, chainStoreWords, chainRowWords}
 
--- ==== A number is 1 to 4 bytes, a term is 0 to 16,777,215, by S-9; P is 0 to 16, all counts together at most 1,024; T is 0 to 1,000; N is 1 to 8, a
--- variable 0 to 7, so at most 8 of them; the check program has T 1,000, a store of 8,192 words
--- and 4,096 words for rows, and reads its site into 8,448 bytes, by S-9, and its check into 128. By document 01 a number was 1 to 3 bytes, and a term 0 to 65,535
+-- ==== A number is 1 to 4 bytes and a term 0 to 16,777,215, by S-9, where document 01 had 1 to 3 bytes and 0 to 65,535; P is 0 to 16, all
+-- counts together at most 1,024; T is 0 to 1,000; N is 1 to 8, a variable 0 to 7, so at most 8 of them; the check program has T 1,000, a
+-- store of 8,192 words and 4,096 words for rows, and reads its site into 8,448 bytes, by S-9, and its check into 128
 
 abbrev pub Limits-Are : Type 0
 Limits-Are =

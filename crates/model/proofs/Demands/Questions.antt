@@ -114,7 +114,7 @@ Plan-File-Refusals = (store : Store) (pattern : Pattern) (bytes : List ℕ) (n :
 pub plan-file-refusals : Plan-File-Refusals
 plan-file-refusals = plan-exactly
 
--- ==== A number is 1 to 3 bytes, seven bits each, low group first; the top bit is set in all bytes but its last. A last byte of 00 stands
+-- ==== A number is 1 to 4 bytes, seven bits each, low group first; the top bit is set in all bytes but its last. A last byte of 00 stands
 -- only alone. Where no bytes at the front have that form, there is no number.
 
 abbrev pub Numbers-Are-Exact : Type 0
