@@ -115,8 +115,8 @@ def time_text(nanoseconds):
 
 
 def timed(line, engine):
-    """The median, and half of the distance between the quartiles."""
-    return '%s ± %.0f %%' % (time_text(line.median(engine)), 50 * line.spread(engine))
+    """The median, and half of the distance between the quartiles; nothing of an engine that was not timed."""
+    return '%s ± %.0f %%' % (time_text(line.median(engine)), 50 * line.spread(engine)) if line.median(engine) else ''
 
 
 def cell(value, form='%.2f'):
@@ -159,8 +159,8 @@ def build_table(measured, sites):
 
 
 def faster(line):
-    """How many times faster than the archive of before."""
-    return cell(line.median(BEFORE) / line.median(ENGINE), '%.1f')
+    """How many times faster than the archive of before, where that accepts the site."""
+    return cell(line.median(BEFORE) / line.median(ENGINE) if line.median(BEFORE) else None, '%.1f')
 
 
 def plan_table(measured):
@@ -275,7 +275,7 @@ def bounds(what, ratios):
 
 def has_gaps(line):
     """Of a further site: one whose terms are not numbered in a row."""
-    return line.site.startswith(('named', 'scattered'))
+    return line.site.startswith(('named', 'scattered', '24-bit'))
 
 
 def best_bounds(what, measured):
@@ -319,7 +319,7 @@ def results(folder, commit):
     text += [''] + whether_text(everything, measured, least_of(map(Line, lines(folder, 'layouts.txt'))), counts)
     text += ['', '## Reduced tables', ''] + reduced_table(measured) + ['', '## How cost grows with rows', '', 'The exponent of time in rows, over shops of 16 to 1,024 rows.', '']
     text += growth_table(measured) + ['', '## Columns with gaps', '', 'Further sites: the same shops with their terms numbered by first appearance, as `tools/site_text.py`',
-                                      'numbers names, or scattered over all numbers. ' + best_bounds('Engine over best C, plan and run', further), '']
+                                      'numbers names, or scattered over the numbers of 16 bits, or of 24, which the archive of before may refuse. ' + best_bounds('Engine over best C, plan and run', further), '']
     text += plan_table(further) + [''] + run_table(further, sites) + [''] + whether_table(further) + ['', '## Sizes', ''] + sizes_table(folder, counts)
     text += ['', 'Code of the archive: {:,} bytes.'.format(int(code[0])), '', '## Agreement', '', '. '.join(lines(folder, 'agree.txt')) + '.', '']
     with open(os.path.join(HERE, 'NOTES.md')) as notes:
