@@ -77,11 +77,11 @@ term-still {old} {new} no-narrower t e =
 
 module _ (numbers : List ℕ) where
   -- what a reply leads to is kept where the reply is, if a refusal leads to a refusal
-  pub led-to : {A B : Type 0} (refusal : ℕ → B) (f g : Reply A → B) → ((n : ℕ) → f (refused n) ≡ refusal n) → ((n : ℕ) → g (refused n) ≡ refusal n)
+  pub continuation-kept : {A B : Type 0} (refusal : ℕ → B) (f g : Reply A → B) → ((n : ℕ) → f (refused n) ≡ refusal n) → ((n : ℕ) → g (refused n) ≡ refusal n)
       → ((a : A) → KeptBut numbers refusal (f (gives a)) (g (gives a))) → (x y : Reply A) → KeptBut numbers refused x y → KeptBut numbers refusal (f x) (g y)
-  led-to refusal f g old new h (refused n) y (inl e) = rw e (inl (new n ∙ sym (old n)))
-  led-to refusal f g old new h (gives a) y (inl e) = rw e (h a)
-  led-to refusal f g old new h x y (inr (n, listed, e)) = inr (n, listed, ap f e ∙ old n)
+  continuation-kept refusal f g old new h (refused n) y (inl e) = rw e (inl (new n ∙ sym (old n)))
+  continuation-kept refusal f g old new h (gives a) y (inl e) = rw e (h a)
+  continuation-kept refusal f g old new h x y (inr (n, inside, e)) = inr (n, inside, ap f e ∙ old n)
 
   abbrev Keeps : {A : Type 0} → Reader A → Reader A → Type 0
   Keeps f g = (bytes : List ℕ) → KeptBut numbers refused (f bytes) (g bytes)
@@ -93,13 +93,13 @@ module _ (numbers : List ℕ) where
       → Keeps (λ bytes. after (f bytes) next) (λ bytes. after (g bytes) more)
   unfolding after
   then-keeps {f} {g} {next} {more} k h bytes =
-      led-to refused (λ x. after x next) (λ x. after x more) (λ n. refl) (λ n. refl) (λ x. h (x .0) (x .1)) (f bytes) (g bytes) (k bytes)
+      continuation-kept refused (λ x. after x next) (λ x. after x more) (λ n. refl) (λ n. refl) (λ x. h (x .0) (x .1)) (f bytes) (g bytes) (k bytes)
 
   -- a question that becomes no stricter
   ask-keeps : (n : ℕ) (b c : Bool) → n ∈ numbers → (b ≡ true → c ≡ true) → Keeps (ask n b) (ask n c)
   unfolding ask
-  ask-keeps n true c listed h bytes = rw (h refl) (inl refl)
-  ask-keeps n false c listed h bytes = inr (n, listed, refl)
+  ask-keeps n true c inside h bytes = rw (h refl) (inl refl)
+  ask-keeps n false c inside h bytes = inr (n, inside, refl)
 
   repeated-keeps : {A : Type 0} {one two : List A → Reader A} → ((done : List A) → Keeps (one done) (two done))
       → (k : ℕ) (done : List A) → Keeps (repeated one k done) (repeated two k done)
@@ -109,39 +109,39 @@ module _ (numbers : List ℕ) where
 
   whole-keeps : {A : Type 0} (n : ℕ) {f g : Reader A} → Keeps f g → (bytes : List ℕ) → KeptBut numbers refused (wholeFile n f bytes) (wholeFile n g bytes)
   unfolding wholeFile
-  whole-keeps n {f} {g} k bytes = led-to refused (allRead n) (allRead n) (λ m. refl) (λ m. refl) (λ x. inl refl) (f bytes) (g bytes) (k bytes)
+  whole-keeps n {f} {g} k bytes = continuation-kept refused (allRead n) (allRead n) (λ m. refl) (λ m. refl) (λ x. inl refl) (f bytes) (g bytes) (k bytes)
 
   module _ (old new : Limits) (no-narrower : NoNarrower old new) where
-    numbers-keep : (n : ℕ) → n ∈ numbers → Keeps (numberUnder old n) (numberUnder new n)
+    number-keeps : (n : ℕ) → n ∈ numbers → Keeps (numberUnder old n) (numberUnder new n)
     unfolding numberUnder numberInUnder
-    numbers-keep n listed bytes = go (numberWithin (old .bytes) true bytes) refl
+    number-keeps n inside bytes = go (numberWithin (old .bytes) true bytes) refl
       where
         go : (o : Option Sized) → numberWithin (old .bytes) true bytes ≡ o
             → KeptBut numbers refused (orRefused n bytes o) (orRefused n bytes (numberWithin (new .bytes) true bytes))
-        go none e = inr (n, listed, refl)
+        go none e = inr (n, inside, refl)
         go (some x) e = rw (within-more (old .bytes) (new .bytes) (no-narrower .longer) true bytes e) (inl refl)
 
     -- ---- the site file
 
     module _ (asked : Among siteAsks numbers) where
-      number-keeps : Keeps (numberUnder old 2) (numberUnder new 2)
-      number-keeps = numbers-keep 2 (among siteAsks numbers asked 2 refl)
+      site-number-keeps : Keeps (numberUnder old 2) (numberUnder new 2)
+      site-number-keeps = number-keeps 2 (among siteAsks numbers asked 2 refl)
 
       rows-keep : (done : List Row) → Keeps (rowUnder old done) (rowUnder new done)
       unfolding rowUnder
       rows-keep done =
-          then-keeps number-keeps λ s.
+          then-keeps site-number-keeps λ s.
           then-keeps (ask-keeps 6 _ _ (among siteAsks numbers asked 6 refl) (term-still no-narrower s)) λ _.
-          then-keeps number-keeps λ o.
+          then-keeps site-number-keeps λ o.
           then-keeps (ask-keeps 6 _ _ (among siteAsks numbers asked 6 refl) (term-still no-narrower o)) λ _.
           same-keeps _
 
       declarations-keep : (done : List Declaration) → Keeps (declarationUnder old done) (declarationUnder new done)
       unfolding declarationUnder
       declarations-keep done =
-          then-keeps number-keeps λ p.
+          then-keeps site-number-keeps λ p.
           then-keeps (ask-keeps 4 _ _ (among siteAsks numbers asked 4 refl) (λ e. let c = and-cases (isTermUnder old p) _ e in and-make (term-still no-narrower p (c .0)) (c .1))) λ _.
-          then-keeps number-keeps λ n.
+          then-keeps site-number-keeps λ n.
           same-keeps _
 
       tables-keep : (ds : List Declaration) (done : Site) → Keeps (tablesUnder old ds done) (tablesUnder new ds done)
@@ -152,7 +152,7 @@ module _ (numbers : List ℕ) where
       pub site-kept : (bytes : List ℕ) → KeptBut numbers refused (readSiteUnder old bytes) (readSiteUnder new bytes)
       unfolding readSiteUnder siteFileUnder
       site-kept = whole-keeps 8 (
-          then-keeps number-keeps λ p.
+          then-keeps site-number-keeps λ p.
           then-keeps (same-keeps _) λ _.
           then-keeps (repeated-keeps declarations-keep p []) λ declared.
           tables-keep declared [])
@@ -160,8 +160,8 @@ module _ (numbers : List ℕ) where
     -- ---- the pattern file
 
     module _ (asked : Among patternAsks numbers) where
-      written-keeps : Keeps (numberUnder old 11) (numberUnder new 11)
-      written-keeps = numbers-keep 11 (among patternAsks numbers asked 11 refl)
+      pattern-number-keeps : Keeps (numberUnder old 11) (numberUnder new 11)
+      pattern-number-keeps = number-keeps 11 (among patternAsks numbers asked 11 refl)
 
       positions-keep : (n : ℕ) (x : Position) → Keeps (askPositionUnder old n x) (askPositionUnder new n x)
       unfolding askPositionUnder
@@ -176,18 +176,18 @@ module _ (numbers : List ℕ) where
       triples-keep : (site : Site) (done : Pattern) → Keeps (triplePatternUnder old site done) (triplePatternUnder new site done)
       unfolding triplePatternUnder
       triples-keep site done =
-          then-keeps written-keeps λ s.
+          then-keeps pattern-number-keeps λ s.
           then-keeps (positions-keep _ _) λ _.
-          then-keeps written-keeps λ p.
+          then-keeps pattern-number-keeps λ p.
           then-keeps (predicates-keep site _) λ _.
-          then-keeps written-keeps λ o.
+          then-keeps pattern-number-keeps λ o.
           then-keeps (positions-keep _ _) λ _.
           same-keeps _
 
       pub pattern-kept : (site : Site) (bytes : List ℕ) → KeptBut numbers refused (readPatternUnder old site bytes) (readPatternUnder new site bytes)
       unfolding readPatternUnder patternFileUnder
       pattern-kept site = whole-keeps 17 (
-          then-keeps written-keeps λ n.
+          then-keeps pattern-number-keeps λ n.
           then-keeps (same-keeps _) λ _.
           repeated-keeps (triples-keep site) n [])
 
@@ -197,9 +197,9 @@ module _ (numbers : List ℕ) where
       steps-keep : (store : Store) (pattern : Pattern) (done : Plan) → Keeps (stepUnder old store pattern done) (stepUnder new store pattern done)
       unfolding stepUnder
       steps-keep store pattern done =
-          then-keeps (numbers-keep 18 (among planAsks numbers asked 18 refl)) λ i.
+          then-keeps (number-keeps 18 (among planAsks numbers asked 18 refl)) λ i.
           then-keeps (same-keeps _) λ _.
-          then-keeps (numbers-keep 18 (among planAsks numbers asked 18 refl)) λ c.
+          then-keeps (number-keeps 18 (among planAsks numbers asked 18 refl)) λ c.
           same-keeps _
 
       pub plan-kept : (store : Store) (pattern : Pattern) (bytes : List ℕ)

@@ -18,7 +18,7 @@ use Rattle.model.specs.declared.answer.Answer.the-variants.{Refused}
 use Rattle.model.proofs.Booleans.{and-cases, and-make}
 use Rattle.model.proofs.Membership.{from-all, into-all}
 use Rattle.model.proofs.Stores.{cond-some}
-use Rattle.model.proofs.Kept.{Among, led-to, term-still, site-kept, pattern-kept, plan-kept}
+use Rattle.model.proofs.Kept.{Among, continuation-kept, term-still, site-kept, pattern-kept, plan-kept}
 
 all-still : {A : Type 0} (p q : A → Bool) → ((a : A) → p a ≡ true → q a ≡ true) → (l : List A) → all p l ≡ true → all q l ≡ true
 all-still p q h l e = into-all q l (λ a inside. h a (from-all p l e inside))
@@ -62,7 +62,7 @@ module _ (old new : Limits) (no-narrower : NoNarrower old new) where
         → ((a : A) → KeptBut numbers refusal (next a) (more a)) → KeptBut numbers refusal (either refusal x next) (either refusal y more)
     unfolding either
     kept-either refusal next {more} {x} {y} k h =
-        led-to numbers refusal (λ r. either refusal r next) (λ r. either refusal r more) (λ n. refl) (λ n. refl) h x y k
+        continuation-kept numbers refusal (λ r. either refusal r next) (λ r. either refusal r more) (λ n. refl) (λ n. refl) h x y k
 
     pub build-kept : Among siteAsks numbers → (t : ℕ) (bytes memory : List ℕ)
         → KeptBut numbers (unaltered memory) (buildUnder old t bytes memory) (buildUnder new t bytes memory)

@@ -22,11 +22,11 @@ mostNumberBytes = 4
 abbrev pub mostTerm : ℕ
 mostTerm = 16777215
 
--- S-9's
+-- those of S-9
 abbrev pub limitsInForce : Limits
 limitsInForce = record { bytes = mostNumberBytes; term = mostTerm }
 
--- document 01's, which were in force before
+-- those of document 01, in force before
 abbrev pub limitsOf01 : Limits
 limitsOf01 = record { bytes = 3; term = 65535 }
 

@@ -67,8 +67,8 @@ wider-limits-keep-calls old new no-narrower = (
 
 -- ==== Files accepted before mean what they meant: every file that the limits 3 and 65,535 accept gives the same site, pattern or plan
 
-no-narrower : NoNarrower limitsOf01 limitsInForce
-no-narrower = record { longer = omega arith; wider = omega arith }
+widened : NoNarrower limitsOf01 limitsInForce
+widened = record { longer = omega arith; wider = omega arith }
 
 abbrev pub Files-Mean-What-They-Meant : Type 0
 Files-Mean-What-They-Meant =
@@ -79,7 +79,7 @@ Files-Mean-What-They-Meant =
 
 pub files-mean-what-they-meant : Files-Mean-What-They-Meant
 files-mean-what-they-meant =
-    let kept = wider-limits-keep-files limitsOf01 limitsInForce no-narrower in
+    let kept = wider-limits-keep-files limitsOf01 limitsInForce widened in
     ((λ bytes site. gives-still (kept .0 bytes)), (λ site bytes pattern. gives-still (kept .1 site bytes)), λ store pattern bytes given. gives-still (kept .2 store pattern bytes))
 
 -- so whatever a call answered, it answers with the same words in the lent memory: Built, a plan, rows or none, yes or no
@@ -97,16 +97,16 @@ abbrev asked : List ℕ
 asked = 10 ∷ (patternAsks ++ planAsks)
 
 store-reply : (words : List ℕ) → KeptBut asked refused (storeReply (storeOfUnder limitsOf01 words)) (storeReply (storeOf words))
-store-reply = words-kept limitsOf01 limitsInForce no-narrower asked (listed 10 asked refl)
+store-reply = words-kept limitsOf01 limitsInForce widened asked (listed 10 asked refl)
 
 pub calls-answer-as-they-did : Calls-Answer-As-They-Did
 unfolding isRefused
 calls-answer-as-they-did = (
-  (λ t bytes memory. answer-still (λ o. isRefused (o .answer)) (λ n. refl) (build-kept limitsOf01 limitsInForce no-narrower siteAsks refl t bytes memory)),
-  (λ words bytes. answer-still (λ o. isRefused (o .answer)) (λ n. refl) (plan-call-kept limitsOf01 limitsInForce no-narrower asked refl words (store-reply words) bytes)),
+  (λ t bytes memory. answer-still (λ o. isRefused (o .answer)) (λ n. refl) (build-kept limitsOf01 limitsInForce widened siteAsks refl t bytes memory)),
+  (λ words bytes. answer-still (λ o. isRefused (o .answer)) (λ n. refl) (plan-call-kept limitsOf01 limitsInForce widened asked refl words (store-reply words) bytes)),
   (λ words bytes steps memory.
-      answer-still (λ o. isRefused (o .answer)) (λ n. refl) (run-kept limitsOf01 limitsInForce no-narrower asked refl words (store-reply words) bytes refl steps memory)),
-  λ words bytes steps. answer-still isRefused (λ n. refl) (whether-kept limitsOf01 limitsInForce no-narrower asked refl words (store-reply words) bytes refl steps),
+      answer-still (λ o. isRefused (o .answer)) (λ n. refl) (run-kept limitsOf01 limitsInForce widened asked refl words (store-reply words) bytes refl steps memory)),
+  λ words bytes steps. answer-still isRefused (λ n. refl) (whether-kept limitsOf01 limitsInForce widened asked refl words (store-reply words) bytes refl steps),
 )
 
 -- a store kept from before, whatever stands past its words, is the store of the site that it was built from
@@ -117,8 +117,8 @@ Stores-Are-Stores-Still =
 
 pub stores-are-stores-still : Stores-Are-Stores-Still
 stores-are-stores-still = (
-  (λ t site rest threshold was. built-holds t site rest threshold (site-still limitsOf01 limitsInForce no-narrower site was)),
-  λ words store. store-still limitsOf01 limitsInForce no-narrower words,
+  (λ t site rest threshold was. built-holds t site rest threshold (site-still limitsOf01 limitsInForce widened site was)),
+  λ words store. store-still limitsOf01 limitsInForce widened words,
 )
 
 -- and the check program shows of a site and a check that were accepted what it did: their solutions
