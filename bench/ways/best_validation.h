@@ -1,4 +1,4 @@
-/* The best C: question 10 by bits. Included by plain.c. */
+/* The best C: question 10 by bits, or by hashing. Included by plain.c. */
 
 /* The lowest and the highest term of a table's subjects or objects, and whether no term between them is known to be missing. */
 struct column { uint32_t low, high; bool gapless; };
