@@ -41,13 +41,22 @@ extern "C" {
 #endif
 
 /* Raised when the inputs of a call, their limits or the numbers of an answer change. Since 2 there is closing_whether. Since 3 a term is at
- * most 16,777,215 and a number has up to 4 bytes; what was accepted before, files and stores that were kept, is answered as it was (a
- * law: Calls-Answer-As-They-Did in crates/model/proofs/Demands/Kept.antt). */
-#define CLOSING_VERSION 3
+ * most 16,777,215 and a number has up to 4 bytes; files that were accepted before mean what they meant (a law: Files-Mean-What-They-Meant
+ * in crates/model/proofs/Demands/Kept.antt). Since 4 there is a fourth kind of reduced table, OO: a store lists four kinds for each pair of
+ * predicates, and a choice is 1 + 4j + k. A store that was kept from before is refused with 10 (a law: Three-Kinds-Refused in
+ * crates/model/proofs/Demands/SharedObjects.antt), so build it anew from its site's file; a plan that was kept must be made anew, by
+ * closing_plan. */
+#define CLOSING_VERSION 4
 
 /* A store of this many words holds every site at every threshold: with it closing_build never returns 9 (a law: Store-Words-Suffice
- * in crates/model/proofs/Demands/Store.antt). Most sites need far fewer; 01's shop needs 84. */
-#define CLOSING_STORE_WORDS 101939
+ * in crates/model/proofs/Demands/Store.antt). Most sites need far fewer; 01's shop needs 102. */
+#define CLOSING_STORE_WORDS 135219
+
+/* Kinds of reduced tables: the rows of a predicate p that have a partner among those of a predicate q, which may be p.
+ *    0  SS  whose subject is a subject in q        1  OS  whose object is a subject in q
+ *    2  SO  whose subject is an object in q        3  OO  whose object is an object in q
+ * A step of a plan is the place of a triple pattern and a choice: 0 for all rows of its predicate, or 1 + 4j + k for kind k against the
+ * triple pattern at place j, where those positions hold one variable and the table is stored. */
 
 /* Kinds of answers, in answer[0], and what stands behind them in answer[1] and answer[2]. answer[3] is 0. */
 #define CLOSING_ROWS 1  /* the count of rows, at least 1; the words of each row, V */

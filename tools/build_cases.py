@@ -1,7 +1,7 @@
 """The further cases of `build`: T, the site's file, the words lent."""
 from making import BAD_FORM, faults_apart, joined
 from reference import MOST_TERM, layout, number, read_site, site_file
-from sites import G1, SHOP, SPREAD
+from sites import DOORS, G1, SHOP, SPREAD
 
 # A good file as its numbers, and each single fault in it: the place of a number, and the bytes that stand there instead.
 NUMBERS = [2, 5, 2, 6, 2, 4, 2, 4, 3, 1, 1, 2, 0]
@@ -23,11 +23,11 @@ def faulty(there):
 
 def cases():
     """(T, file, lent words)"""
-    room = 96
+    room = 112
     # the shop at thresholds around its one boundary, and in stores of around its size
     for threshold in (0, 1, 500, 666, 667, 999, 1000, 1001, 65536, 2**32 - 1):
         yield threshold, SHOP, room
-    for lent in (0, 1, 3, 79, 80, 83, 84, 85):
+    for lent in (0, 1, 3, 97, 98, 101, 102, 103):
         yield 1000, SHOP, lent
         yield 666, SHOP, lent
     # every prefix of a good file, and one byte too many
@@ -38,6 +38,9 @@ def cases():
     # G1, and its tables at lower thresholds: selectivities of 1/4, 1/3, 1/2 and 3/4
     for threshold in (1000, 751, 750, 501, 500, 334, 333, 251, 250, 0):
         yield threshold, site_file(G1), room
+    # objects that are shared: OO of 3/4 and 2/3 of the rows
+    for threshold in (1000, 751, 750, 667, 666, 0):
+        yield threshold, site_file(DOORS), 124
     # small sites: none declared, none with rows, the least and the greatest terms, sixteen predicates
     yield 1000, b'\0', 4
     yield 1000, b'\0', 3
@@ -45,14 +48,14 @@ def cases():
     yield 1000, site_file([(0, [])]), 16
     for greatest in (65535, 65536, MOST_TERM):
         yield 1000, site_file([(greatest, [(0, 0), (0, greatest), (greatest, 0), (greatest, greatest)])]), 32
-    yield 1000, site_file([(7, []), (8, [(1, 1)]), (9, [])]), 80
-    yield 1000, site_file([(p, []) for p in range(16)]), 2000
-    yield 1000, site_file([(p, []) for p in range(17)]), 2000
+    yield 1000, site_file([(7, []), (8, [(1, 1)]), (9, [])]), 96
+    yield 1000, site_file([(p, []) for p in range(16)]), 2112
+    yield 1000, site_file([(p, []) for p in range(17)]), 2112
     yield 1000, site_file([(1, [(s, o) for s in range(3) for o in range(3)])]), 64
     yield 1000, site_file([(1, [(1, 2), (2, 1)]), (2, [(1, 2)])]), 64
     # the largest sites: 1,024 rows of one predicate, and 64 of each of sixteen; with one word too few, and, where little is stored, whole
     lone = [(9, [(s, o) for s in range(64) for o in range(s, s + 16)])]
-    wide = [(p, [(s, (7 * s + p) % 128) for s in range(p, p + 64)]) for p in range(16)]
+    wide = [(p, [(s, (7 * s + p) % 251) for s in range(p, p + 64)]) for p in range(16)]
     for threshold, site in ((1000, lone), (1000, wide), (0, lone), (0, wide)):
         yield threshold, site_file(site), len(layout(threshold, site)) - 1
     yield 0, site_file(lone), len(layout(0, lone))
@@ -108,6 +111,6 @@ def cases():
     yield 1000, b'\x01\x05\x02\x04\x02\x03' + number(MOST_TERM + 1), 8
     yield 1000, b'\x01\x05\x02\x04\x02\x04\x02\x00', 8
     yield 1000, b'\x01\x05\x03\x04\x02\x04\x02' + number(MOST_TERM + 1), 8
-    yield 1000, SHOP + b'\x00', 83
-    yield 1000, SHOP[:-1] + b'\x28', 83
-    yield 1000, SHOP, 83
+    yield 1000, SHOP + b'\x00', 101
+    yield 1000, SHOP[:-1] + b'\x28', 101
+    yield 1000, SHOP, 101

@@ -1,7 +1,7 @@
 """The further cases of `plan`: a store's words, then what is asked over them."""
 from making import BAD_FORM, Over, faults_apart, joined, random_numbers, random_pattern
-from reference import MOST_TERM, layout, number, pattern_file, read_site
-from sites import CHECK, G1, G1_WORDS, NONE_BY_COUNTS, Q1, SHOP, SHOP_WORDS, SMALL_WORDS, STAR_OF_TERMS
+from reference import KINDS, MOST_TERM, layout, number, pattern_file, read_site
+from sites import CHECK, DOOR_THAT_LEADS, DOORS, DOORS_WORDS, G1, G1_WORDS, NO_DOOR_SHARED, NONE_BY_COUNTS, ONE_DOOR, Q1, SHOP, SHOP_WORDS, SMALL_WORDS, STAR_OF_TERMS, THREE_ON_A_DOOR
 
 
 def stores():
@@ -25,10 +25,22 @@ def stores():
     yield shop.plan(b'', place=0, value=2)
     yield shop.plan(b'\0', count=used - 1)
     # zeros only
-    zeros = Over([0] * 96)
+    zeros = Over([0] * 112)
     yield zeros.held()
-    for count in (0, 1, 2, 3, 4, 84, 96):
+    for count in (0, 1, 2, 3, 4, 102, 112):
         yield zeros.plan(CHECK, count=count)
+    # each word of a store that holds OO tables
+    doors = Over(DOORS_WORDS)
+    yield doors.held()
+    for place, word in enumerate(DOORS_WORDS):
+        for value in (word + 1, (word - 1) % 2**32):
+            yield doors.plan(ONE_DOOR, place=place, value=value)
+    # stores of before S-14, which list three kinds: 10, but where there is no predicate
+    for site in ([], [(1, [])], read_site(SHOP), G1, DOORS):
+        before = Over(layout(1000, site, KINDS[:3]))
+        yield before.held()
+        yield before.plan(CHECK)
+        yield before.plan(b'')
     # stores of other sites: none declared, none with rows, sixteen predicates, 1,024 rows; each with a pattern that it refuses or not
     good = (
         [[0, 1000, 3], [0, 0, 3], layout(500, [(1, []), (2, [])]), layout(1000, [(p, []) for p in range(1, 17)])]
@@ -60,8 +72,8 @@ def stores():
         yield over.plan(pattern_file([(1, 4, 3), (3, 4, 5)]))
         yield over.plan(pattern_file([(1, 20, 3), (3, 20, 5)]))
     # fewer words than used, and more used than there are
-    for used_word in (0, 2, 3, 12, 13, 14, 15, 2**32 - 1):
-        over = Over([1, 1000, used_word, 1, 0, 12, 0, 0, 0, 0, 0, 0, 5, 5])
+    for used_word in (0, 2, 3, 14, 15, 16, 17, 2**32 - 1):
+        over = Over([1, 1000, used_word, 1, 0, 14, 0, 0, 0, 0, 0, 0, 0, 0, 5, 5])
         yield over.held()
         yield over.plan(pattern_file([(1, 2, 3)]))
 
@@ -145,7 +157,15 @@ def plans():
     yield ties.plan(pattern_file([(1, 2, 1), (1, 4, 1)]))
     yield ties.plan(pattern_file([(1, 2, 3), (1, 6, 5), (1, 4, 7)]))
     yield ties.plan(pattern_file([(1, 2, 3), (3, 4, 1), (3, 6, 1)]))
+    # SS and OO with equal rows; OO against two partners; OO that is empty
+    yield ties.plan(pattern_file([(1, 2, 3), (1, 4, 3)]))
+    yield ties.plan(pattern_file([(1, 2, 3), (5, 4, 3), (7, 6, 3)]))
+    doors = Over(DOORS_WORDS)
+    yield doors.held()
+    for pattern in (ONE_DOOR, THREE_ON_A_DOOR, DOOR_THAT_LEADS, NO_DOOR_SHARED, pattern_file([(1, 2, 42), (3, 4, 42)])):
+        yield doors.plan(pattern)
     # the rows of the table chosen decide the order, not those of VP
+    yield ties.held()
     yield ties.plan(pattern_file([(1, 4, 3), (5, 2, 7), (5, 4, 5)]))
     # many patterns
     sites = [read_site(SHOP), G1, [(1, [(s, (3 * s) % 5) for s in range(6)]), (2, [(s, s) for s in range(2)]), (5, []), (9, [(2, 0), (4, 3)])]]

@@ -4,7 +4,7 @@ from itertools import permutations, product
 
 from making import BAD_FORM, Over, faults_apart, joined, random_numbers, random_pattern
 from reference import choices, layout, number, pattern_file, plan_file, read_pattern, read_site, site_file
-from sites import CHECK, CHECK_PLAN, G1, G1_WORDS, NONE_BY_COUNTS, Q1, SHOP, SHOP_WORDS, SMALL_WORDS, SPREAD, SPREAD_PATH, SPREAD_STAR, STAR_OF_TERMS
+from sites import CHECK, CHECK_PLAN, CHECK_PLAN_OF_BEFORE, DOOR_THAT_LEADS, DOORS, DOORS_WORDS, G1, G1_WORDS, NO_DOOR_SHARED, NONE_BY_COUNTS, ONE_DOOR, Q1, SHOP, SHOP_WORDS, SMALL_WORDS, SPREAD, SPREAD_PATH, SPREAD_STAR, STAR_OF_TERMS, THREE_ON_A_DOOR
 
 
 def given_plans():
@@ -17,9 +17,10 @@ def given_plans():
             yield shop.run(CHECK, steps[:end])
         for extra in (0x00, 0x80):
             yield shop.run(CHECK, steps + bytes([extra]))
+    yield shop.run(CHECK, CHECK_PLAN_OF_BEFORE)
     # every choice at every place
     for place in range(3):
-        for choice in list(range(12)) + [127, 128, 65536, 2097151, 2097152, 2**28 - 1]:
+        for choice in list(range(16)) + [127, 128, 65536, 2097151, 2097152, 2**28 - 1]:
             yield shop.run(CHECK, plan_file([(place, choice)] + [(other, 0) for other in range(3) if other != place]))
     # not stored at this T
     low = Over(layout(666, read_site(SHOP)))
@@ -29,8 +30,13 @@ def given_plans():
     graph = Over(G1_WORDS)
     yield graph.held()
     for place in range(4):
-        for choice in range(14):
+        for choice in range(19):
             yield graph.run(Q1, plan_file([(place, choice)] + [(other, 0) for other in range(4) if other != place]))
+    doors = Over(DOORS_WORDS)
+    yield doors.held()
+    for place in range(3):
+        for choice in range(15):
+            yield doors.run(THREE_ON_A_DOOR, plan_file([(place, choice)] + [(other, 0) for other in range(3) if other != place]))
     # faults of a plan
     small = Over(SMALL_WORDS)
     yield small.held()
@@ -41,7 +47,7 @@ def given_plans():
         + [(place, BAD_FORM) for place in range(4)]
         # four bytes are a number of good form, too large for its field; five are none
         + [(place, bad) for place in range(4) for bad in (number(2**28 - 1), b'\x80\x80\x80\x80\x01')]
-        + [(place, number(choice)) for place in (1, 3) for choice in (1, 2, 4, 6, 7, 25, 200)]
+        + [(place, number(choice)) for place in (1, 3) for choice in (1, 2, 5, 7, 8, 9, 33, 200)]
     )
     for there in faults_apart(faults):
         yield small.run(pattern, joined(numbers, there, len(numbers)))
@@ -84,6 +90,7 @@ def every_plan():
         (600, G1, (pattern_file([(1, 20, 3), (3, 20, 5), (5, 22, 7)]), Q1)),
         (1000, [(1, [(1, 1), (1, 2), (2, 2), (3, 1)]), (2, [(1, 3), (2, 2)])], (pattern_file([(1, 2, 1), (1, 4, 3), (3, 2, 5)]),)),
         (1000, SPREAD, (SPREAD_PATH, SPREAD_STAR)),
+        (1000, DOORS, (ONE_DOOR, THREE_ON_A_DOOR, DOOR_THAT_LEADS, NO_DOOR_SHARED)),
     ):
         over = Over(layout(threshold, site))
         yield over.held()
@@ -93,7 +100,7 @@ def every_plan():
     # the paper's Q1 at T 1,000: the plan of its own figure first, then every order with the choices in turn
     graph = Over(G1_WORDS)
     yield graph.held()
-    yield graph.run(Q1, plan_file([(2, 11), (3, 9), (0, 0), (1, 0)]))
+    yield graph.run(Q1, plan_file([(2, 14), (3, 11), (0, 0), (1, 0)]))
     by_place = open_choices(1000, G1, Q1)
     for turn, places in enumerate(permutations(range(4))):
         yield graph.run(Q1, plan_file([(place, by_place[place][turn % len(by_place[place])]) for place in places]))
@@ -148,8 +155,8 @@ def empty_tables():
     site = [(1, [(1, 2), (4, 5)]), (2, []), (3, [(2, 9)]), (4, [(7, 7)])]
     over = Over(layout(1000, site))
     yield over.held()
-    # of VP; of SS, OS and SO, where each has rows in VP
-    for pattern in ([(1, 4, 3)], [(1, 2, 3), (5, 4, 7)], [(1, 6, 3), (1, 8, 5)], [(1, 2, 3), (3, 8, 5)], [(1, 6, 3), (5, 8, 1)], [(1, 2, 3), (1, 2, 1)]):
+    # of VP; of SS, OS, SO and OO, where each has rows in VP
+    for pattern in ([(1, 4, 3)], [(1, 2, 3), (5, 4, 7)], [(1, 6, 3), (1, 8, 5)], [(1, 2, 3), (3, 8, 5)], [(1, 6, 3), (5, 8, 1)], [(1, 2, 3), (5, 6, 3)], [(1, 2, 3), (1, 2, 1)]):
         data = pattern_file(pattern)
         yield over.run(data, in_order(len(pattern)))
         yield over.run(data, in_order(len(pattern)), 0)
@@ -201,8 +208,10 @@ def chains():
     yield site_file(G1), Q1, 3
     for check in (SPREAD_PATH, SPREAD_STAR):
         yield site_file(SPREAD), check, 24
-    # a store of 8,192 words does not hold every site: 9, and one that it holds
-    for rows in (64, 40):
+    for check in (ONE_DOOR, THREE_ON_A_DOOR, NO_DOOR_SHARED):
+        yield site_file(DOORS), check, 24
+    # a store of 8,192 words does not hold every site: 9, also of one that it held while three kinds were listed; and one that it holds
+    for rows in (64, 10, 8):
         yield site_file([(p, [(s, s + p % 2) for s in range(rows)]) for p in range(16)]), pattern_file([(2, 2, 1)]), 24
 
 

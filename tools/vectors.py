@@ -109,13 +109,13 @@ def literal_order(words, data):
 def assert_papers():
     """What the papers print, worked out again."""
     assert layout(1000, G1) == G1_WORDS
-    assert build(1000, SHOP, [7] * 84)[0] == 84 and build(666, SHOP, [7] * 84)[0] == 80
-    assert plan(SHOP_WORDS, CHECK) == [(2, 0), (0, 4), (1, 0)]
+    assert build(1000, SHOP, [7] * 102)[0] == 102 and build(666, SHOP, [7] * 102)[0] == 98
+    assert plan(SHOP_WORDS, CHECK) == [(2, 0), (0, 5), (1, 0)]
     assert run(SHOP_WORDS, CHECK, CHECK_PLAN, [7] * 4) == (1, 3, [11, 21, 30, 7])
     # the paper's choice for tp3 of Q1 is OS of follows against likes, at place 3; it joins tp3 and tp4 first
-    assert plan(G1_WORDS, Q1)[:2] == [(2, 1 + 3 * 3 + 1), (3, 1 + 3 * 2 + 2)]
+    assert plan(G1_WORDS, Q1)[:2] == [(2, 1 + 4 * 3 + 1), (3, 1 + 4 * 2 + 2)]
     # the paper's one row of Q1: ?x A, ?w I2, ?y B, ?z C; in Q1's reading order x, w, y, z are variables 0 to 3
-    assert run(G1_WORDS, Q1, bytes([2, 10 + 1, 3, 9, 0, 0, 1, 0]), [7] * 4) == (1, 4, [1, 6, 2, 3])
+    assert run(G1_WORDS, Q1, bytes([2, 13 + 1, 3, 11, 0, 0, 1, 0]), [7] * 4) == (1, 4, [1, 6, 2, 3])
     # Algorithm 4 taken literally makes a cross join of the first two that it picks; ours picks one that shares a variable
     pattern, literal = literal_order(SHOP_WORDS, STAR_OF_TERMS)
     ours = [place for place, _ in plan(SHOP_WORDS, STAR_OF_TERMS)]

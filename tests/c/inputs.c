@@ -235,7 +235,7 @@ static void make_plan(struct input *input, const uint32_t *store, size_t store_w
             choice = open[below((uint32_t)choices)];
         }
         put_number(&input->plan, one_in(60) ? below(9) : place);
-        put_number(&input->plan, one_in(40) ? below(30) : one_in(200) ? 1u << 27 : choice);
+        put_number(&input->plan, one_in(40) ? below(40) : one_in(200) ? 1u << 27 : choice);
     }
     if (one_in(12))
         damage_file(&input->plan);

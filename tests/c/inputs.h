@@ -4,7 +4,7 @@
 
 #include "files.h"
 
-enum { STORE_WORDS = 120000, ROW_WORDS = 4096 };
+enum { STORE_WORDS = 136000, ROW_WORDS = 4096 };
 
 /* One input: a build; and a plan, a run and whether over the store of a good site, which may be damaged. */
 struct input {

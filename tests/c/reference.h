@@ -7,7 +7,7 @@
 #include <stddef.h>
 #include <stdint.h>
 
-#define MOST_CHOICES 25
+#define MOST_CHOICES 33
 
 uint32_t reference_build(uint32_t t, const uint8_t *site, size_t site_bytes, uint32_t *store, size_t store_words, uint64_t answer[4]);
 

@@ -73,7 +73,7 @@ static uint32_t read_site(const uint8_t *data, size_t size, struct site *site) {
 
 /* ---- tables */
 
-const int own_column[KINDS] = {0, 1, 0}, other_column[KINDS] = {0, 0, 1};
+const int own_column[KINDS] = {0, 1, 0, 1}, other_column[KINDS] = {0, 0, 1, 1};
 
 static int has_partner(const struct site *site, const uint32_t *row, const struct table *q, int k) {
     for (uint32_t r = 0; r < q->count; r++)

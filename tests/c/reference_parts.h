@@ -5,7 +5,7 @@
 #include <stddef.h>
 #include <stdint.h>
 
-enum { MOST_PREDICATES = 16, MOST_ROWS = 1024, MOST_TRIPLES = 8, MOST_VARIABLES = 8, KINDS = 3, MOST_TERM = 16777215, MOST_THRESHOLD = 1000 };
+enum { MOST_PREDICATES = 16, MOST_ROWS = 1024, MOST_TRIPLES = 8, MOST_VARIABLES = 8, KINDS = 4, MOST_TERM = 16777215, MOST_THRESHOLD = 1000 };
 
 enum { ROWS = 1, NONE = 2, BUILT = 3, PLAN = 4, YES = 5, NO = 6 };
 
@@ -40,7 +40,7 @@ int take_number(struct bytes *file, uint32_t *value);
 
 void set_answer(uint64_t answer[4], uint64_t kind, uint64_t first, uint64_t second);
 
-/* SS, OS, SO by the column of p and the column of q that must agree. */
+/* SS, OS, SO and, by S-14, OO: the column of p and the column of q that must agree. */
 extern const int own_column[KINDS], other_column[KINDS];
 
 uint32_t reduced_rows(const struct site *site, const struct table *p, const struct table *q, int k);

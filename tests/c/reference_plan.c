@@ -63,7 +63,7 @@ uint32_t read_check(const uint32_t *store, size_t store_words, const uint8_t *da
     return read_store(store, store_words, site) ? read_pattern(data, size, site, pattern) : 10;
 }
 
-/* ---- choices: 0 is VP, 1 + 3j + k is kind k against the triple pattern at place j */
+/* ---- choices: 0 is VP, 1 + 4j + k is kind k against the triple pattern at place j */
 
 static int same_variable(const struct position *a, const struct position *b) {
     return a->is_variable && b->is_variable && a->number == b->number;

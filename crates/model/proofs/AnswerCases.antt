@@ -73,9 +73,9 @@ oneEmpty = 0x02 ∷ 0x01 ∷ 0x00 ∷ 0x02 ∷ 0x01 ∷ 0x0A ∷ 0x14 ∷ []
 -- the empty table starts where its rows would
 abbrev pub oneEmptyWords : List ℕ
 oneEmptyWords =
-    2 ∷ 1000 ∷ 35 ∷ 1 ∷ 0 ∷ 33 ∷ 2 ∷ 1 ∷ 33
+    2 ∷ 1000 ∷ 43 ∷ 1 ∷ 0 ∷ 41 ∷ 2 ∷ 1 ∷ 41
     -- 1 against 1 and 2, and 2 against 1; then 2 against 2, and the row
-    ∷ (replicate 18 0 ++ 1 ∷ 0 ∷ 0 ∷ 0 ∷ 0 ∷ 0 ∷ 10 ∷ 20 ∷ [])
+    ∷ (replicate 24 0 ++ 1 ∷ 0 ∷ 0 ∷ 0 ∷ 0 ∷ 0 ∷ 1 ∷ 0 ∷ 10 ∷ 20 ∷ [])
 
 -- predicate 16,777,215 with the rows 300 16,777,215, 65,536 16,777,215 and 16,777,215 300: numbers of two, three and four bytes
 abbrev pub longNumbers : List ℕ
@@ -88,23 +88,23 @@ longNumbers =
 -- its subjects are all but 65,536 objects too
 abbrev pub longWords : List ℕ
 longWords =
-    1 ∷ 1000 ∷ 22 ∷ 16777215 ∷ 3 ∷ 12 ∷ 3 ∷ 0 ∷ 3 ∷ 0 ∷ 2 ∷ 18
+    1 ∷ 1000 ∷ 24 ∷ 16777215 ∷ 3 ∷ 14 ∷ 3 ∷ 0 ∷ 3 ∷ 0 ∷ 2 ∷ 20 ∷ 3 ∷ 0
     ∷ 300 ∷ 16777215 ∷ 65536 ∷ 16777215 ∷ 16777215 ∷ 300
     ∷ 300 ∷ 16777215 ∷ 16777215 ∷ 300 ∷ []
 
 abbrev pub buildCases : List Case
 buildCases =
     -- 1: T 1,001, whatever the site; T 0: no table is stored
-    (build 1001 shop (lent 84), outcome (Refused 1) (lent 84))
-    ∷ (build 1001 [] (lent 84), outcome (Refused 1) (lent 84))
-    ∷ (build 0 shop (lent 80), outcome (Built 80) (unstored 0))
+    (build 1001 shop (lent 102), outcome (Refused 1) (lent 102))
+    ∷ (build 1001 [] (lent 102), outcome (Refused 1) (lent 102))
+    ∷ (build 0 shop (lent 98), outcome (Built 98) (unstored 0))
     -- 8: the shop and a byte more; it is asked before 9
-    ∷ (build 1000 (shop ++ 0x00 ∷ []) (lent 84), outcome (Refused 8) (lent 84))
+    ∷ (build 1000 (shop ++ 0x00 ∷ []) (lent 102), outcome (Refused 8) (lent 102))
     ∷ (build 1000 (0x00 ∷ 0x00 ∷ []) [], outcome (Refused 8) [])
     ∷ (build 1000 (0x00 ∷ []) (lent 2), outcome (Refused 9) (lent 2))
     -- within the limits
-    ∷ (build 1000 oneEmpty (lent 35), outcome (Built 35) oneEmptyWords)
-    ∷ (build 1000 longNumbers (lent 22), outcome (Built 22) longWords)
+    ∷ (build 1000 oneEmpty (lent 43), outcome (Built 43) oneEmptyWords)
+    ∷ (build 1000 longNumbers (lent 24), outcome (Built 24) longWords)
     ∷ []
 
 pub builds-worked : Hold buildCases
@@ -178,11 +178,12 @@ refusedPlans =
     -- 19: place 3 of three; a place of four bytes
     ∷ (0x03 ∷ [], 19)
     ∷ (0x80 ∷ 0x80 ∷ 0x80 ∷ 0x01 ∷ [], 19)
-    -- 20: a table against its own place, against place 3, of a kind that does not qualify; SS of in against covers, which is whole and so not stored;
+    -- 20: a table against its own place, against place 3, of kinds that do not qualify, OS and OO; SS of in against covers, which is whole and so not stored;
     -- a choice of four bytes
     ∷ (0x00 ∷ 0x01 ∷ [], 20)
-    ∷ (0x00 ∷ 0x0A ∷ [], 20)
-    ∷ (0x00 ∷ 0x05 ∷ [], 20)
+    ∷ (0x00 ∷ 0x0D ∷ [], 20)
+    ∷ (0x00 ∷ 0x06 ∷ [], 20)
+    ∷ (0x00 ∷ 0x08 ∷ [], 20)
     ∷ (0x01 ∷ 0x01 ∷ [], 20)
     ∷ (0x00 ∷ 0x80 ∷ 0x80 ∷ 0x80 ∷ 0x01 ∷ [], 20)
     -- two faults: 19 of the place and 18 of its choice; 20 of a choice and 19 of the next place
@@ -209,7 +210,7 @@ crossJoin = 0x02 ∷ 0x01 ∷ 0x04 ∷ 0x3C ∷ 0x03 ∷ 0x06 ∷ 0x52 ∷ []
 
 -- predicate 0 with the row x x
 abbrev pub oneRow : ℕ → List ℕ
-oneRow x = 1 ∷ 1000 ∷ 14 ∷ 0 ∷ 1 ∷ 12 ∷ 1 ∷ 0 ∷ 1 ∷ 0 ∷ 1 ∷ 0 ∷ x ∷ x ∷ []
+oneRow x = 1 ∷ 1000 ∷ 16 ∷ 0 ∷ 1 ∷ 14 ∷ 1 ∷ 0 ∷ 1 ∷ 0 ∷ 1 ∷ 0 ∷ 1 ∷ 0 ∷ x ∷ x ∷ []
 
 -- ?0 16,777,215 ?1, ?1 16,777,215 ?0
 abbrev pub thereAndBack : List ℕ
@@ -223,12 +224,12 @@ abbrev pub runCases : List Case
 runCases =
     -- 10: no words; a word short; T 1,001 of a site of no predicates; a table stored that is not at T 666; not 10: T 999, where the same is stored
     (run [] [] [] (lent 3), outcome (Refused 10) (lent 3))
-    ∷ (run (take 83 (stored 1000)) check [] (lent 3), outcome (Refused 10) (lent 3))
+    ∷ (run (take 101 (stored 1000)) check [] (lent 3), outcome (Refused 10) (lent 3))
     ∷ (run (0 ∷ 1001 ∷ 3 ∷ []) check [] (lent 3), outcome (Refused 10) (lent 3))
     ∷ (run (stored 666) check [] (lent 3), outcome (Refused 10) (lent 3))
     ∷ (run (stored 999) check [] (lent 3), outcome (Refused 18) (lent 3))
     -- T 666, and the table that is stored at T 667: 20
-    ∷ (run (unstored 666) check (0x00 ∷ 0x04 ∷ 0x01 ∷ 0x00 ∷ 0x02 ∷ 0x00 ∷ []) (lent 3), outcome (Refused 20) (lent 3))
+    ∷ (run (unstored 666) check (0x00 ∷ 0x05 ∷ 0x01 ∷ 0x00 ∷ 0x02 ∷ 0x00 ∷ []) (lent 3), outcome (Refused 20) (lent 3))
     -- the table of predicate 1 is empty: 18, 19 or 20 of a bad plan, and else None, for which no room is asked
     ∷ (run oneEmptyWords (0x01 ∷ 0x01 ∷ 0x02 ∷ 0x03 ∷ []) [] [], outcome (Refused 18) [])
     ∷ (run oneEmptyWords (0x01 ∷ 0x01 ∷ 0x02 ∷ 0x03 ∷ []) (0x01 ∷ 0x00 ∷ []) [], outcome (Refused 19) [])
@@ -249,7 +250,7 @@ runCases =
     )
     ∷ (run oneEmptyWords (0x01 ∷ 0xFE ∷ 0xFF ∷ 0xFF ∷ 0x0F ∷ 0x04 ∷ 0x01 ∷ []) (0x00 ∷ 0x00 ∷ []) (lent 1), outcome None (lent 1))
     -- terms above 65,535, by a stored table; the greatest term in a store, and 10 of one above it
-    ∷ (run longWords thereAndBack (0x00 ∷ 0x06 ∷ 0x01 ∷ 0x00 ∷ []) (lent 4), outcome (Rows 2 2) (300 ∷ 16777215 ∷ 16777215 ∷ 300 ∷ []))
+    ∷ (run longWords thereAndBack (0x00 ∷ 0x07 ∷ 0x01 ∷ 0x00 ∷ []) (lent 4), outcome (Rows 2 2) (300 ∷ 16777215 ∷ 16777215 ∷ 300 ∷ []))
     ∷ (run (oneRow 16777215) (0x01 ∷ 0x01 ∷ 0x00 ∷ 0x01 ∷ []) (0x00 ∷ 0x00 ∷ []) (lent 1), outcome (Rows 1 1) (16777215 ∷ []))
     ∷ (run (oneRow 16777216) (0x01 ∷ 0x01 ∷ 0x00 ∷ 0x01 ∷ []) (0x00 ∷ 0x00 ∷ []) (lent 1), outcome (Refused 10) (lent 1))
     ∷ []
@@ -262,19 +263,19 @@ runs-worked = refl
 
 -- predicate 0 with the row s o, which are not equal
 abbrev pub oneRowApart : ℕ → ℕ → List ℕ
-oneRowApart s o = 1 ∷ 1000 ∷ 14 ∷ 0 ∷ 1 ∷ 12 ∷ 1 ∷ 0 ∷ 0 ∷ 0 ∷ 0 ∷ 0 ∷ s ∷ o ∷ []
+oneRowApart s o = 1 ∷ 1000 ∷ 16 ∷ 0 ∷ 1 ∷ 14 ∷ 1 ∷ 0 ∷ 0 ∷ 0 ∷ 0 ∷ 0 ∷ 1 ∷ 0 ∷ s ∷ o ∷ []
 
 abbrev pub widenedCases : List Case
 widenedCases =
     -- four bytes of a number were too many: 2, and now 3; predicate 65,536 was 4, subject and object 65,536 were 6
     (buildUnder limitsOf01 1000 (0x80 ∷ 0x80 ∷ 0x80 ∷ 0x01 ∷ []) [], outcome (Refused 2) [])
     ∷ (build 1000 (0x80 ∷ 0x80 ∷ 0x80 ∷ 0x01 ∷ []) [], outcome (Refused 3) [])
-    ∷ (buildUnder limitsOf01 1000 (0x01 ∷ 0x80 ∷ 0x80 ∷ 0x04 ∷ 0x00 ∷ []) (lent 12), outcome (Refused 4) (lent 12))
-    ∷ (build 1000 (0x01 ∷ 0x80 ∷ 0x80 ∷ 0x04 ∷ 0x00 ∷ []) (lent 12), outcome (Built 12) (1 ∷ 1000 ∷ 12 ∷ 65536 ∷ 0 ∷ 12 ∷ replicate 6 0))
-    ∷ (buildUnder limitsOf01 1000 (0x01 ∷ 0x00 ∷ 0x01 ∷ 0x80 ∷ 0x80 ∷ 0x04 ∷ 0x01 ∷ []) (lent 14), outcome (Refused 6) (lent 14))
-    ∷ (build 1000 (0x01 ∷ 0x00 ∷ 0x01 ∷ 0x80 ∷ 0x80 ∷ 0x04 ∷ 0x01 ∷ []) (lent 14), outcome (Built 14) (oneRowApart 65536 1))
-    ∷ (buildUnder limitsOf01 1000 (0x01 ∷ 0x00 ∷ 0x01 ∷ 0x01 ∷ 0x80 ∷ 0x80 ∷ 0x04 ∷ []) (lent 14), outcome (Refused 6) (lent 14))
-    ∷ (build 1000 (0x01 ∷ 0x00 ∷ 0x01 ∷ 0x01 ∷ 0x80 ∷ 0x80 ∷ 0x04 ∷ []) (lent 14), outcome (Built 14) (oneRowApart 1 65536))
+    ∷ (buildUnder limitsOf01 1000 (0x01 ∷ 0x80 ∷ 0x80 ∷ 0x04 ∷ 0x00 ∷ []) (lent 14), outcome (Refused 4) (lent 14))
+    ∷ (build 1000 (0x01 ∷ 0x80 ∷ 0x80 ∷ 0x04 ∷ 0x00 ∷ []) (lent 14), outcome (Built 14) (1 ∷ 1000 ∷ 14 ∷ 65536 ∷ 0 ∷ 14 ∷ replicate 8 0))
+    ∷ (buildUnder limitsOf01 1000 (0x01 ∷ 0x00 ∷ 0x01 ∷ 0x80 ∷ 0x80 ∷ 0x04 ∷ 0x01 ∷ []) (lent 16), outcome (Refused 6) (lent 16))
+    ∷ (build 1000 (0x01 ∷ 0x00 ∷ 0x01 ∷ 0x80 ∷ 0x80 ∷ 0x04 ∷ 0x01 ∷ []) (lent 16), outcome (Built 16) (oneRowApart 65536 1))
+    ∷ (buildUnder limitsOf01 1000 (0x01 ∷ 0x00 ∷ 0x01 ∷ 0x01 ∷ 0x80 ∷ 0x80 ∷ 0x04 ∷ []) (lent 16), outcome (Refused 6) (lent 16))
+    ∷ (build 1000 (0x01 ∷ 0x00 ∷ 0x01 ∷ 0x01 ∷ 0x80 ∷ 0x80 ∷ 0x04 ∷ []) (lent 16), outcome (Built 16) (oneRowApart 1 65536))
     -- words that were no store
     ∷ (runUnder limitsOf01 (oneRow 65536) [] [] [], outcome (Refused 10) [])
     ∷ (run (oneRow 65536) [] [] [], outcome (Refused 11) [])
@@ -304,7 +305,7 @@ shopJoined plan n = let site = siteIn (readSite shop) in joined site (patternIn 
 abbrev pub met : ℕ → ℕ → Partial
 met x y = some x ∷ some y ∷ replicate 6 none
 
-pub first-step : shopJoined (record { place = 0; choice = 4 } ∷ []) 1 ≡ met 10 20 ∷ met 11 21 ∷ []
+pub first-step : shopJoined (record { place = 0; choice = 5 } ∷ []) 1 ≡ met 10 20 ∷ met 11 21 ∷ []
 unfolding computing
 first-step = refl
 
@@ -315,17 +316,18 @@ abbrev pub tied : List ℕ
 tied =
     0x04 ∷ 0x01 ∷ 0x02 ∷ 0x02 ∷ 0x01 ∷ 0x03 ∷ 0x01 ∷ 0x04 ∷ 0x01 ∷ 0x0A ∷ 0x14 ∷ 0x0B ∷ 0x15 ∷ 0x0A ∷ 0x1E ∷ 0x0A ∷ 0x28 ∷ 0x15 ∷ 0x0A ∷ []
 
-abbrev pub planOf : List ℕ → List ℕ → ℕ → Case
-planOf bytes steps count =
-    (planOutcome (plan (build 1000 tied (lent 150) .memory) bytes), outcome PlanAnswer (steps ++ (replicate (16 - 2 * count) 0 ++ count ∷ [])))
+-- the plan on the store of a site
+abbrev pub planOf : List ℕ → List ℕ → List ℕ → ℕ → Case
+planOf site bytes steps count =
+    (planOutcome (plan (build 1000 site (lent 170) .memory) bytes), outcome PlanAnswer (steps ++ (replicate (16 - 2 * count) 0 ++ count ∷ [])))
 
 abbrev pub plannerCases : List Case
 plannerCases =
     -- ?0 1 ?1, ?0 2 ?2, ?0 3 ?3: SS against 2 and against 3 leave one row each, and the lower j is chosen; of the chosen tables, each of
     -- one row, the lowest place is first, though VP of 1 has two
-    planOf (0x03 ∷ 0x01 ∷ 0x02 ∷ 0x03 ∷ 0x01 ∷ 0x04 ∷ 0x05 ∷ 0x01 ∷ 0x06 ∷ 0x07 ∷ []) (0 ∷ 4 ∷ 1 ∷ 0 ∷ 2 ∷ 0 ∷ []) 3
+    planOf tied (0x03 ∷ 0x01 ∷ 0x02 ∷ 0x03 ∷ 0x01 ∷ 0x04 ∷ 0x05 ∷ 0x01 ∷ 0x06 ∷ 0x07 ∷ []) (0 ∷ 5 ∷ 1 ∷ 0 ∷ 2 ∷ 0 ∷ []) 3
     -- ?0 1 ?1, ?1 4 ?0: OS and SO leave one row each, and the lower k is chosen
-    ∷ planOf (0x02 ∷ 0x01 ∷ 0x02 ∷ 0x03 ∷ 0x03 ∷ 0x08 ∷ 0x01 ∷ []) (0 ∷ 5 ∷ 1 ∷ 0 ∷ []) 2
+    ∷ planOf tied (0x02 ∷ 0x01 ∷ 0x02 ∷ 0x03 ∷ 0x03 ∷ 0x08 ∷ 0x01 ∷ []) (0 ∷ 6 ∷ 1 ∷ 0 ∷ []) 2
     ∷ []
 
 pub plans-worked : Hold plannerCases

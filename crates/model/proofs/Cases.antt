@@ -1,4 +1,5 @@
--- The worked shop: cases (a) to (j) of document 01 as one list, by computation; and what S-7's call says of each check.
+-- The worked shop: cases (a) to (j) of document 01 as one list, by computation, with the figures that S-14 gives them; and what S-7's call
+-- says of each check.
 use Prim.Native.Nat.{ℕ}
 use mathlib.Core.Path.{_≡_, refl}
 use mathlib.Core.List.{List, [], _∷_, _++_, map}
@@ -47,30 +48,34 @@ abbrev pub storeWords : ℕ → ℕ → ℕ → List ℕ → List ℕ
 storeWords t used start stored =
     3 ∷ t ∷ used
     -- per predicate: term, row count, start
-    ∷ 1 ∷ 3 ∷ 66 ∷ 2 ∷ 2 ∷ 72 ∷ 3 ∷ 2 ∷ 76
-    -- covers against covers, in, state: row count and start of SS, OS, SO
-    ∷ 3 ∷ 0 ∷ 0 ∷ 0 ∷ 0 ∷ 0
-    ∷ 2 ∷ start ∷ 0 ∷ 0 ∷ 0 ∷ 0
-    ∷ 0 ∷ 0 ∷ 3 ∷ 0 ∷ 0 ∷ 0
+    ∷ 1 ∷ 3 ∷ 84 ∷ 2 ∷ 2 ∷ 90 ∷ 3 ∷ 2 ∷ 94
+    -- covers against covers, in, state: row count and start of SS, OS, SO, OO
+    ∷ 3 ∷ 0 ∷ 0 ∷ 0 ∷ 0 ∷ 0 ∷ 3 ∷ 0
+    ∷ 2 ∷ start ∷ 0 ∷ 0 ∷ 0 ∷ 0 ∷ 0 ∷ 0
+    ∷ 0 ∷ 0 ∷ 3 ∷ 0 ∷ 0 ∷ 0 ∷ 0 ∷ 0
     -- in against covers, in, state
-    ∷ 2 ∷ 0 ∷ 0 ∷ 0 ∷ 0 ∷ 0
-    ∷ 2 ∷ 0 ∷ 0 ∷ 0 ∷ 0 ∷ 0
-    ∷ 0 ∷ 0 ∷ 0 ∷ 0 ∷ 0 ∷ 0
+    ∷ 2 ∷ 0 ∷ 0 ∷ 0 ∷ 0 ∷ 0 ∷ 0 ∷ 0
+    ∷ 2 ∷ 0 ∷ 0 ∷ 0 ∷ 0 ∷ 0 ∷ 2 ∷ 0
+    ∷ 0 ∷ 0 ∷ 0 ∷ 0 ∷ 0 ∷ 0 ∷ 0 ∷ 0
     -- state against covers, in, state
-    ∷ 0 ∷ 0 ∷ 0 ∷ 0 ∷ 2 ∷ 0
-    ∷ 0 ∷ 0 ∷ 0 ∷ 0 ∷ 0 ∷ 0
-    ∷ 2 ∷ 0 ∷ 0 ∷ 0 ∷ 0 ∷ 0
+    ∷ 0 ∷ 0 ∷ 0 ∷ 0 ∷ 2 ∷ 0 ∷ 0 ∷ 0
+    ∷ 0 ∷ 0 ∷ 0 ∷ 0 ∷ 0 ∷ 0 ∷ 0 ∷ 0
+    ∷ 2 ∷ 0 ∷ 0 ∷ 0 ∷ 0 ∷ 0 ∷ 2 ∷ 0
     ∷ (vpRows ++ stored)
 
--- the 84 words with the stored table's two rows, and the 80 without
+-- the 102 words with the stored table's two rows, and the 98 without
 abbrev pub stored : ℕ → List ℕ
-stored t = storeWords t 84 80 (10 ∷ 20 ∷ 11 ∷ 21 ∷ [])
+stored t = storeWords t 102 98 (10 ∷ 20 ∷ 11 ∷ 21 ∷ [])
 
 abbrev pub unstored : ℕ → List ℕ
-unstored t = storeWords t 80 0 []
+unstored t = storeWords t 98 0 []
 
 abbrev pub chosenPlan : List ℕ
-chosenPlan = 0x02 ∷ 0x00 ∷ 0x00 ∷ 0x04 ∷ 0x01 ∷ 0x00 ∷ []
+chosenPlan = 0x02 ∷ 0x00 ∷ 0x00 ∷ 0x05 ∷ 0x01 ∷ 0x00 ∷ []
+
+-- the plan chosen while a choice was 1 + 3j + k, which must be made anew: choice 4 at place 0 is now OO against itself
+abbrev pub planOfBefore : List ℕ
+planOfBefore = 0x02 ∷ 0x00 ∷ 0x00 ∷ 0x04 ∷ 0x01 ∷ 0x00 ∷ []
 
 abbrev pub writtenPlan : List ℕ
 writtenPlan = 0x00 ∷ 0x00 ∷ 0x01 ∷ 0x00 ∷ 0x02 ∷ 0x00 ∷ []
@@ -126,23 +131,23 @@ computing = tt
 
 abbrev pub cases : List Case
 cases =
-    -- (a) 84 words, and a word past them; one stored table, SS of covers against in, 2 of 3 rows; 83 words: 9
-    (build 1000 shop (lent 85), outcome (Built 84) (stored 1000 ++ 7 ∷ []))
-    ∷ (build 1000 shop (lent 84), outcome (Built 84) (stored 1000))
-    ∷ (build 1000 shop (lent 83), outcome (Refused 9) (lent 83))
-    ∷ (told (outcome (Built 84) (stored 1000)), outcome (Built 84) (0 ∷ 3 ∷ 84 ∷ 0 ∷ 0 ∷ stored 1000))
-    ∷ (told (outcome (Refused 9) (lent 83)), outcome (Refused 9) (9 ∷ 7 ∷ 7 ∷ 7 ∷ 7 ∷ lent 83))
-    -- (b) T 667: stored; T 666: not
-    ∷ (build 667 shop (lent 84), outcome (Built 84) (stored 667))
-    ∷ (build 666 shop (lent 84), outcome (Built 80) (unstored 666 ++ 7 ∷ 7 ∷ 7 ∷ 7 ∷ []))
-    -- (c) the plan chosen; that plan and the written order give the one row; 2 words: 21, 3: accepted
+    -- (a), by S-14: 102 words, and a word past them; one stored table, SS of covers against in, 2 of 3 rows; 101 words: 9
+    (build 1000 shop (lent 103), outcome (Built 102) (stored 1000 ++ 7 ∷ []))
+    ∷ (build 1000 shop (lent 102), outcome (Built 102) (stored 1000))
+    ∷ (build 1000 shop (lent 101), outcome (Refused 9) (lent 101))
+    ∷ (told (outcome (Built 102) (stored 1000)), outcome (Built 102) (0 ∷ 3 ∷ 102 ∷ 0 ∷ 0 ∷ stored 1000))
+    ∷ (told (outcome (Refused 9) (lent 101)), outcome (Refused 9) (9 ∷ 7 ∷ 7 ∷ 7 ∷ 7 ∷ lent 101))
+    -- (b) T 667: stored; T 666: not, 98 words
+    ∷ (build 667 shop (lent 102), outcome (Built 102) (stored 667))
+    ∷ (build 666 shop (lent 102), outcome (Built 98) (unstored 666 ++ 7 ∷ 7 ∷ 7 ∷ 7 ∷ []))
+    -- (c) the plan chosen, choice 5 by S-14; that plan and the written order give the one row; 2 words: 21, 3: accepted
     ∷ (
       planOutcome (plan (stored 1000) check),
-      outcome PlanAnswer (2 ∷ 0 ∷ 0 ∷ 4 ∷ 1 ∷ 0 ∷ 0 ∷ 0 ∷ 0 ∷ 0 ∷ 0 ∷ 0 ∷ 0 ∷ 0 ∷ 0 ∷ 0 ∷ 3 ∷ []),
+      outcome PlanAnswer (2 ∷ 0 ∷ 0 ∷ 5 ∷ 1 ∷ 0 ∷ 0 ∷ 0 ∷ 0 ∷ 0 ∷ 0 ∷ 0 ∷ 0 ∷ 0 ∷ 0 ∷ 0 ∷ 3 ∷ []),
     )
     ∷ (
       toldPlan (plan (stored 1000) check),
-      outcome PlanAnswer (0 ∷ 4 ∷ 3 ∷ 0 ∷ 0 ∷ 2 ∷ 0 ∷ 0 ∷ 4 ∷ 1 ∷ 0 ∷ 0 ∷ 0 ∷ 0 ∷ 0 ∷ 0 ∷ 0 ∷ 0 ∷ 0 ∷ 0 ∷ 0 ∷ []),
+      outcome PlanAnswer (0 ∷ 4 ∷ 3 ∷ 0 ∷ 0 ∷ 2 ∷ 0 ∷ 0 ∷ 5 ∷ 1 ∷ 0 ∷ 0 ∷ 0 ∷ 0 ∷ 0 ∷ 0 ∷ 0 ∷ 0 ∷ 0 ∷ 0 ∷ 0 ∷ []),
     )
     ∷ (run (stored 1000) check writtenPlan (lent 4), outcome (Rows 1 3) (11 ∷ 21 ∷ 30 ∷ 7 ∷ []))
     ∷ (run (stored 1000) check chosenPlan (lent 2), outcome (Refused 21) (7 ∷ 7 ∷ []))
@@ -151,7 +156,7 @@ cases =
     ∷ (
       outcome PlanAnswer
           (joinWords check
-          (record { place = 2; choice = 0 } ∷ record { place = 0; choice = 4 } ∷ record { place = 1; choice = 0 } ∷ [])),
+          (record { place = 2; choice = 0 } ∷ record { place = 0; choice = 5 } ∷ record { place = 1; choice = 0 } ∷ [])),
       outcome PlanAnswer (11 ∷ 21 ∷ 30 ∷ []),
     )
     ∷ (
@@ -163,7 +168,10 @@ cases =
     ∷ (answered (whether (stored 1000) check chosenPlan), answered Yes)
     ∷ (answered (whether (stored 1000) check writtenPlan), answered Yes)
     ∷ (toldAnswer Yes, outcome Yes (0 ∷ 5 ∷ 0 ∷ 0 ∷ 0 ∷ []))
-    -- (d) first choice 7 at place 0: 20; place 0 twice: 19
+    -- the plan chosen before S-14: 20
+    ∷ (run (stored 1000) check planOfBefore (lent 3), outcome (Refused 20) (lent 3))
+    ∷ (answered (whether (stored 1000) check planOfBefore), answered (Refused 20))
+    -- (d) first choice 7 at place 0, SO against place 1: 20; place 0 twice: 19
     ∷ (run (stored 1000) check (0x00 ∷ 0x07 ∷ 0x01 ∷ 0x00 ∷ 0x02 ∷ 0x00 ∷ []) (lent 3), outcome (Refused 20) (7 ∷ 7 ∷ 7 ∷ []))
     ∷ (run (stored 1000) check (0x00 ∷ 0x00 ∷ 0x00 ∷ 0x00 ∷ 0x02 ∷ 0x00 ∷ []) (lent 3), outcome (Refused 19) (7 ∷ 7 ∷ 7 ∷ []))
     ∷ (answered (whether (stored 1000) check (0x00 ∷ 0x07 ∷ 0x01 ∷ 0x00 ∷ 0x02 ∷ 0x00 ∷ [])), answered (Refused 20))
@@ -182,13 +190,13 @@ cases =
       outcome (Refused 14) (7 ∷ 7 ∷ []),
     )
     ∷ (
-      planOutcome (plan (replicate 84 0) check),
+      planOutcome (plan (replicate 102 0) check),
       outcome (Refused 10) (0 ∷ 0 ∷ 0 ∷ 0 ∷ 0 ∷ 0 ∷ 0 ∷ 0 ∷ 0 ∷ 0 ∷ 0 ∷ 0 ∷ 0 ∷ 0 ∷ 0 ∷ 0 ∷ 0 ∷ []),
     )
-    ∷ (run (replicate 84 0) check chosenPlan (lent 3), outcome (Refused 10) (7 ∷ 7 ∷ 7 ∷ []))
+    ∷ (run (replicate 102 0) check chosenPlan (lent 3), outcome (Refused 10) (7 ∷ 7 ∷ 7 ∷ []))
     ∷ (answered (whether (0 ∷ 1000 ∷ 3 ∷ []) (0x01 ∷ 0x01 ∷ 0x02 ∷ 0x03 ∷ []) (0x00 ∷ 0x00 ∷ [])), answered (Refused 14))
     ∷ (toldAnswer (Refused 14), outcome (Refused 14) (14 ∷ lent 4))
-    ∷ (answered (whether (replicate 84 0) check chosenPlan), answered (Refused 10))
+    ∷ (answered (whether (replicate 102 0) check chosenPlan), answered (Refused 10))
     ∷ (toldAnswer (Refused 10), outcome (Refused 10) (10 ∷ lent 4))
     -- (f) 10 covers 20, and 10 covers 21
     ∷ (run (stored 1000) (0x01 ∷ 0x14 ∷ 0x02 ∷ 0x28 ∷ []) (0x00 ∷ 0x00 ∷ []) (lent 1), outcome (Rows 1 0) (7 ∷ []))

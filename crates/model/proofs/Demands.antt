@@ -4,6 +4,7 @@ pub mod Answers
 pub mod Questions
 pub mod Memory
 pub mod Solutions
+pub mod SharedObjects
 pub mod Store
 pub mod Files
 pub mod Screen

@@ -47,6 +47,7 @@ pub mod Whether
 pub mod Memory
 pub mod Cases
 pub mod AnswerCases
+pub mod SharedObjectCases
 pub mod ChainRows
 pub mod FittingRows
 pub mod Answers

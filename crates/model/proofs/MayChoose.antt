@@ -2,23 +2,24 @@
 use Prim.Native.Nat.{ℕ, zero, suc, _+_, _*_, _%_, _≤_, _<_}
 use native.Mathlib.Omega.{arith}
 use native.Mathlib.Numerals.{one-add}
+use native.Mathlib.Nat.{mul-le-mul-right}
 use mathlib.Core.Path.{_≡_, refl, sym}
 use mathlib.Core.Logic.{_⊎_, inl, inr, _↔_}
-use mathlib.Core.Bool.{true}
+use mathlib.Core.Bool.{true, false}
 use mathlib.Core.List.{List, Memᴰ·cast}
 use lib.ListN.{length}
 use lib.Dec.{ltb}
 use borrow.Author.Tests.{ltb-true, lt-ltb, eq-eqb}
 use Rattle.model.specs.Lists.{_∈_, any}
 use Rattle.model.specs.Site.{Site}
-use Rattle.model.specs.Tables.{kindAt, kindCount, isStored}
+use Rattle.model.specs.Tables.{kindAt, kindCount, mostThreshold, isStored}
 use Rattle.model.specs.Store.{Store}
 use Rattle.model.specs.Pattern.{Pattern, positions, tripleAt, sameVariable}
 use Rattle.model.specs.Plan.{partner, qualifies, reducedTable, chosenTable, mayChoose, StoredChoice}
 use Rattle.model.specs.Planner.{shareVariable, isJoined}
 use Rattle.model.specs.declared.pattern.Position.the-variants.{Var}
 use Rattle.model.specs.declared.pattern.TriplePattern.{TriplePattern}
-use Rattle.model.proofs.Booleans.{and-cases, and-make}
+use Rattle.model.proofs.Booleans.{and-cases, and-make, to-false}
 use Rattle.model.proofs.Membership.{from-any, into-any}
 use Rattle.model.proofs.Places.{one-variable}
 
@@ -31,9 +32,13 @@ stored-exactly t n m = (
   λ c. and-make (lt-ltb 0 n (c .0)) (lt-ltb (1000 * n) (t * m) (c .1)),
 )
 
+-- a table that keeps all its rows is not, at any T
+pub whole-not-stored : (t n : ℕ) → t ≤ mostThreshold → isStored t n n ≡ false
+whole-not-stored t n h = to-false (isStored t n n) (λ e. omega (arith, stored-exactly t n n .0 e .1, mul-le-mul-right n h))
+
 -- ---- choices
 
--- the place and the kind of choice 1 + 3j + k
+-- the place and the kind of choice 1 + 4j + k
 numbers-back : (j k : ℕ) → k < kindCount → (partner (kindCount * j + k) ≡ j) × ((kindCount * j + k) % kindCount ≡ k)
 numbers-back j k h = (omega arith, omega arith)
 
@@ -51,14 +56,14 @@ module _ (store : Store) (pattern : Pattern) (i : ℕ) where
       let k = c % kindCount in
       let parts = and-cases (qualifies pattern i j (kindAt k)) _ h in
       let stored = stored-exactly (store .threshold) (length (reducedTable (store .site) pattern i j (kindAt k))) _ .0 (parts .1) in
-      inr (record { j = j; k = k; one-of-three = omega arith; number = omega arith; qualified = parts .0; some-row = stored .0; within-threshold = stored .1 })
+      inr (record { j = j; k = k; one-of-four = omega arith; number = omega arith; qualified = parts .0; some-row = stored .0; within-threshold = stored .1 })
 
   pub may-be-chosen : (c : ℕ) → (c ≡ 0) ⊎ StoredChoice store pattern i c → mayChoose store pattern i c ≡ true
   unfolding mayChoose
   may-be-chosen c (inl e) = rw e refl
   may-be-chosen c (inr s) =
-      let b = numbers-back (s .j) (s .k) (s .one-of-three) in
-      rw (s .number, one-add, chosen-reduced (store .site) pattern i (s .j) (s .k) (s .one-of-three), b .0, b .1)
+      let b = numbers-back (s .j) (s .k) (s .one-of-four) in
+      rw (s .number, one-add, chosen-reduced (store .site) pattern i (s .j) (s .k) (s .one-of-four), b .0, b .1)
       (and-make (s .qualified) (stored-exactly (store .threshold) _ _ .1 (s .some-row, s .within-threshold)))
 
 -- ---- shared variables

@@ -4,17 +4,17 @@ use native.Mathlib.Omega.{arith}
 use mathlib.Core.Path.{_≡_, refl, sym, ap, _∙_}
 use mathlib.Core.Logic.{_⊎_, inl, inr, _≢_}
 use mathlib.Core.Bool.{Bool, true, false, cond, _&&_, not}
-use mathlib.Core.List.{List, [], _∷_, List·Memᴰ·head, List·Memᴰ·cases-cons, Memᴰ·of-map}
-use lib.ListN.{length, getD, length-map}
+use mathlib.Core.List.{List, [], _∷_, _++_, map-append, List·Memᴰ·head, List·Memᴰ·cases-cons, Memᴰ·of-map}
+use lib.ListN.{length, getD, length-append, length-map}
 use lib.Dec.{eqb}
-use borrow.Author.Tests.{ltb-true, eqb-true, eqb-false, not-true}
+use borrow.Author.Tests.{ltb-true, eqb-true, eqb-false, eq-eqb, not-true}
 use Rattle.model.specs.Lists.{_∈_, filter, any, all}
 use Rattle.model.specs.Store.{Store}
 use Rattle.model.specs.Pattern.{Pattern}
 use Rattle.model.specs.Plan.{Step, Plan, isPlace, mayChoose, placesOf, distinct, isStep, isProper}
 use Rattle.model.specs.Join.{noStep}
 use Rattle.model.proofs.Booleans.{and-cases, and-make, bool-cases, to-false, not-both}
-use Rattle.model.proofs.Membership.{from-filter, from-any, into-any, from-all, at-place, place-of, filter-all}
+use Rattle.model.proofs.Membership.{from-filter, from-any, into-any, from-all, all-append, at-place, place-of, filter-all}
 
 -- ---- distinct numbers below n are at most n
 
@@ -121,3 +121,20 @@ module _ (store : Store) (pattern : Pattern) (plan : Plan) (proper : isProper st
     where
       below : (j : ℕ) → j ∈ placesOf plan → j < length pattern
       below j m = let x = Memᴰ·of-map (λ (y : Step). y .place) plan m in rw (← (x .2)) (allowed (x .0) (x .1) .0)
+
+-- the step at place i may take any other table that may be chosen there
+pub choice-exchanged : (store : Store) (pattern : Pattern) (before after : Plan) (i c d : ℕ)
+    → isProper store pattern (before ++ record { place = i; choice = c } ∷ after) ≡ true → mayChoose store pattern i d ≡ true
+    → isProper store pattern (before ++ record { place = i; choice = d } ∷ after) ≡ true
+unfolding isProper
+choice-exchanged store pattern before after i c d proper may =
+    let was = parts store pattern (before ++ record { place = i; choice = c } ∷ after) proper in
+    let front = and-cases (all (isStep store pattern) before) _ (sym (all-append (isStep store pattern) before _) ∙ was .steps) in
+    let step = and-cases (isPlace pattern i && mayChoose store pattern i c) (all (isStep store pattern) after) (front .1) in
+    let place = and-cases (isPlace pattern i) (mayChoose store pattern i c) (step .0) in
+    let size : length (before ++ record { place = i; choice = d } ∷ after) ≡ length (before ++ record { place = i; choice = c } ∷ after) =
+    length-append before _ ∙ sym (length-append before _) in
+    let same : placesOf (before ++ record { place = i; choice = d } ∷ after) ≡ placesOf (before ++ record { place = i; choice = c } ∷ after) =
+    map-append (λ x. x .place) before _ ∙ sym (map-append (λ x. x .place) before _) in
+    and-make (eq-eqb _ _ (size ∙ was .whole))
+    (and-make (all-append (isStep store pattern) before _ ∙ and-make (front .0) (and-make (and-make (place .0) may) (step .1))) (ap distinct same ∙ was .once))

@@ -1,12 +1,12 @@
 -- Semi-joins, for any pair of columns.
-use mathlib.Core.Path.{_≡_}
+use mathlib.Core.Path.{_≡_, refl}
 use mathlib.Core.Bool.{true}
 use mathlib.Core.List.{List}
 use borrow.Author.Tests.{eqb-true, eq-eqb}
 use Rattle.model.specs.Lists.{_∈_, any, ascends}
 use Rattle.model.specs.Site.{Row, rowBefore}
-use Rattle.model.specs.Tables.{at, Kind, arePartners, semiJoin}
-use Rattle.model.proofs.Membership.{from-filter, into-filter, from-any, into-any}
+use Rattle.model.specs.Tables.{Column, at, Kind, arePartners, semiJoin}
+use Rattle.model.proofs.Membership.{from-filter, into-filter, from-any, into-any, filter-all}
 use Rattle.model.proofs.Order.{rows, ascends-filter}
 
 -- some row of q has, at the other column, the row's value
@@ -30,3 +30,9 @@ module _ (k : Kind) (p q : List Row) where
   pub semi-join-ascends : ascends rowBefore p ≡ true → ascends rowBefore (semiJoin k p q) ≡ true
   unfolding semiJoin
   semi-join-ascends e = ascends-filter rowBefore rows (λ r. any (arePartners k r) q) p e
+
+-- a table against itself, at one and the same column, keeps all its rows: each is its own partner
+pub all-against-itself : (c : Column) (rows : List Row) → semiJoin (c, c) rows rows ≡ rows
+unfolding semiJoin
+all-against-itself c rows =
+    filter-all (λ r. any (arePartners (c, c) r) rows) rows (λ r m. into-any (arePartners (c, c) r) m (eq-eqb (at c r) (at c r) refl))

@@ -1,12 +1,12 @@
 -- The decoder of a store: it answers exactly where question 10 is yes, with that site and threshold.
-use Prim.Native.Nat.{ℕ, _+_, _*_, _≤_}
+use Prim.Native.Nat.{ℕ, _+_, _*_, _≤_, _<_}
 use native.Mathlib.Omega.{arith}
-use native.Mathlib.Nat.{min-eq-left}
+use native.Mathlib.Nat.{min-eq-left, add-zero}
 use mathlib.Core.Path.{_≡_, refl, sym, ap, _∙_, subst}
 use mathlib.Core.Bool.{Bool, true, false, cond, _&&_, false≢true}
 use mathlib.Core.Option.{none, some}
 use mathlib.Core.List.{List, [], _∷_, _++_, append-assoc}
-use lib.ListN.{length, getD, take, drop, take-append-drop}
+use lib.ListN.{length, getD, take, drop, take-append-drop, List·getD-append}
 use lib.Seq.{take-at, drop-at}
 use lib.Dec.{eqb, leb}
 use borrow.Author.Tests.{eqb-true, leb-true, le-leb, eq-eqb}
@@ -18,7 +18,7 @@ use Rattle.model.specs.Store.{tableWords, vpEntries, vpWords, rowsStart,
 use Rattle.model.proofs.Booleans.{and-cases, and-make}
 use Rattle.model.proofs.Partition.{proper}
 use Rattle.model.proofs.Blocks.{longer-block, drop-block}
-use Rattle.model.proofs.StoreLayout.{length-table, layout-used, vp-entries-block, vp-words-block}
+use Rattle.model.proofs.StoreLayout.{length-table, length-layout, layout-used, vp-entries-block, vp-words-block, vp-entry}
 
 -- ---- general
 
@@ -92,6 +92,23 @@ built-holds t site rest h e = record {
   proper = e;
   same = take-at (layout t site) rest (wordsUsed (layout t site ++ rest)) (sym (first-words t site rest .2 ∙ layout-used t site));
 }
+
+-- the rows of the first table begin behind the entries
+pub first-start : (words : List ℕ) (t : ℕ) (site : Site) → Holds words t site → 1 ≤ getD words 0 0 → getD words 5 0 ≡ rowsStart (getD words 0 0)
+first-start words t site h nonempty = rw (w, first-words t site rest .0) first
+  where
+    rest : List ℕ
+    rest = drop (wordsUsed words) words
+
+    w : words ≡ layout t site ++ rest
+    w = sym (take-append-drop (wordsUsed words) words) ∙ ap (λ (x : List ℕ). x ++ rest) (h .same)
+
+    among : 0 < length site
+    among = omega (arith, sym (ap (λ (x : List ℕ). getD x 0 0) w ∙ first-words t site rest .0))
+
+    first : getD (layout t site ++ rest) 5 0 ≡ rowsStart (length site)
+    first =
+        List·getD-append (layout t site) rest 0 5 (omega (arith, among, length-layout t site)) ∙ vp-entry t site 0 among .start ∙ add-zero (rowsStart (length site))
 
 pub store-complete : (words : List ℕ) (t : ℕ) (site : Site) → Holds words t site → storeOf words ≡ some (storeAt t site)
 unfolding storeOfUnder isStoreOfUnder

@@ -30,9 +30,9 @@ arePartners k r s = eqb (at (k .0) r) (at (k .1) s)
 unfoldable pub semiJoin : Kind → List Row → List Row → List Row
 semiJoin k p q = filter (λ r. any (arePartners k r) q) p
 
--- k = 0, 1, 2: SS, OS, SO
+-- k = 0, 1, 2: SS, OS, SO, the paper's; k = 3: OO, which the paper leaves out and S-14 of document 02 defines
 abbrev pub kinds : List Kind
-kinds = (subject, subject) ∷ (object, subject) ∷ (subject, object) ∷ []
+kinds = (subject, subject) ∷ (object, subject) ∷ (subject, object) ∷ (object, object) ∷ []
 
 abbrev pub kindCount : ℕ
 kindCount = length kinds

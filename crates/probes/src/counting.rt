@@ -110,10 +110,6 @@ pub fn count_partnered(
     if ranges[b + 2] == 1 && partner_lowest <= lowest && highest <= partner_highest {
         return o.rows;
     }
-    if o.start == o.against && o.own == o.other && o.rows <= o.partners {
-        // Each row is its own partner.
-        return o.rows;
-    }
     let filtered = should_filter(ranges, b, o.partners);
     if o.own == 0 {
         return count_filtered(w, o.start, 2, w, objects, first, o, filtered);

@@ -1,10 +1,11 @@
 -- One semi-join in words: its entry and its stored rows, as the test of them asks, and as they are compared.
 use Prim.Native.Nat.{ℕ, _+_, _*_, _≤_}
 use native.Mathlib.Omega.{arith}
-use mathlib.Core.Path.{_≡_, refl, sym}
+use mathlib.Core.Path.{_≡_, refl, sym, _∙_}
 use mathlib.Core.Bool.{Bool, true, false, cond}
 use mathlib.Core.List.{List, []}
 use lib.ListN.{length, getD, take, drop}
+use lib.Dec.{eqb}
 use borrow.Author.Tests.{eqb-true, leb-true, eq-eqb, le-leb}
 use Rattle.model.specs.Lists.{sameWords}
 use Rattle.model.specs.Site.{Row}
@@ -12,7 +13,7 @@ use Rattle.model.specs.Tables.{isStored}
 use Rattle.model.specs.Store.{Reduced, isStoredTable, storedRows, tableWords}
 use Rattle.model.proofs.Booleans.{and-cases, and-make, not-both, to-false}
 use Rattle.stored_rows.proofs.ComparedRows.{as-many}
-use Rattle.semi_join_validation.specs.Joins.{storedHolds, joinHolds}
+use Rattle.semi_join_validation.specs.Joins.{storedHolds, notStoredHolds, joinHolds}
 use Rattle.site_validation.specs.declared.entries.Extent.{Extent}
 use Rattle.site_validation.specs.declared.entries.Extent.the-variants.{Ends, Invalid}
 
@@ -136,3 +137,22 @@ module _ (t : ℕ) (words : List ℕ) (r : Reduced) (entry here used : ℕ) wher
         ends-at
         (record { count = count; begins = rw known begins; room = rw none (omega arith); same = rw none refl })
         (rw none (omega arith))
+
+  -- the answer by a count of the rows that are left
+  pub ends-counted : (n : ℕ) → n ≡ length (r .rows) → (left ≡ n → isStored t n (length (r .full)) ≡ false) → here ≤ used
+      → cond (notStoredHolds left start n) (Ends here) Invalid ≡ end
+  unfolding notStoredHolds
+  ends-counted n counted unstored inside = go (notStoredHolds left start n) refl
+    where
+      same-left : left ≡ n → isStored t left (length (r .full)) ≡ false
+      same-left e = rw e (unstored e)
+
+      go : (b : Bool) → notStoredHolds left start n ≡ b → cond b (Ends here) Invalid ≡ end
+      go true e =
+          let (count, begins) = and-cases (eqb left n) (eqb start 0) e in
+          let same = eqb-true left n count in
+          ends-not-stored (same-left same) (same ∙ counted) (eqb-true start 0 begins) inside
+      go false e =
+          ends-wrong (λ j.
+          let same = j .count ∙ sym counted in
+          not-both (and-make (eq-eqb left n same) (eq-eqb start 0 (not-stored (same-left same) j))) e)

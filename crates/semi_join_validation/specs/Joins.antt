@@ -25,6 +25,10 @@ pub record SemiJoinWords (t count : ℕ) (words : List ℕ) (first used : ℕ) :
 unfoldable pub storedHolds : List ℕ → List Row → ℕ → ℕ → ℕ → ℕ → Bool
 storedHolds words rows start left here used = eqb start here && (leb (here + 2 * left) used && sameWords (take (2 * left) (drop here words)) (tableWords rows))
 
+-- the entry of n rows that are not stored: their count, and no start
+unfoldable pub notStoredHolds : ℕ → ℕ → ℕ → Bool
+notStoredHolds left start n = eqb left n && eqb start 0
+
 -- the entry at a place, and the rows at `here` if they are stored, which end at `used` or before
 unfoldable pub joinHolds : ℕ → List ℕ → Reduced → ℕ → ℕ → ℕ → Bool
 joinHolds t words x entry here used =

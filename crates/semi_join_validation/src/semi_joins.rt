@@ -10,7 +10,7 @@ ghost use Rattle.tables.specs.SiteWords.{siteIn, ImageOf, reducedAt};
 ghost use Rattle.probes.specs.Probed.{Probed};
 ghost use Rattle.statistics.specs.IndexedTables.{IndexedTables};
 ghost use Rattle.statistics.specs.Ranges.{ColumnRange};
-ghost use Rattle.semi_join_validation.specs.Joins.{SemiJoinWords, storedHolds, joinHolds, joinsHold};
+ghost use Rattle.semi_join_validation.specs.Joins.{SemiJoinWords, storedHolds, notStoredHolds, joinHolds, joinsHold};
 ghost use Rattle.site_validation.specs.declared.entries.Extent.the-variants.{Ends, Invalid};
 use crate::empty_pairs::is_empty_pair;
 use probes::counting::count_partnered;
@@ -55,6 +55,16 @@ fn stored_end(
     Extent::Invalid
 }
 
+// Where the rows end that are stored of none, `here`, if their entry has `counted` for their count and no start.
+fn not_stored_end(left: usize, start: usize, counted: usize, here: usize) -> Extent
+    ensures { λ r. ⌜ r ≡ cond (notStoredHolds left start counted) (Ends here) Invalid ⌝ }
+{
+    if left != counted || start != 0 {
+        return Extent::Invalid;
+    }
+    Extent::Ends(here)
+}
+
 // Where the stored rows of the semi-join of kind k of p against q end, if they and its entry are as they should be and the rows begin at `here`.
 fn semi_join_end(
     t: usize,
@@ -79,12 +89,12 @@ fn semi_join_end(
     let start = entry.start;
     let a = range_at(p, o.own);
     let b = range_at(q, o.other);
+    if a == b {
+        // A column against itself leaves all rows, which are never stored.
+        return not_stored_end(left, start, o.rows, here);
+    }
     if columns_apart(ranges, a, b) {
-        // No row is left.
-        if left != 0 || start != 0 {
-            return Extent::Invalid;
-        }
-        return Extent::Ends(here);
+        return not_stored_end(left, start, 0, here);
     }
     if o.rows < left {
         return Extent::Invalid;
@@ -92,10 +102,8 @@ fn semi_join_end(
     if is_stored(t, left, o.rows) {
         return stored_end(w, objects, ranges, first, b, o, start, left, here, used);
     }
-    if start != 0 || count_partnered(w, objects, first, ranges, a, b, o) != left {
-        return Extent::Invalid;
-    }
-    Extent::Ends(here)
+    let counted = count_partnered(w, objects, first, ranges, a, b, o);
+    not_stored_end(left, start, counted, here)
 }
 
 // Whether the entries and the stored rows of all semi-joins are as they should be, and the last rows end at `used`.

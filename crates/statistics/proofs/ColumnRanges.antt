@@ -4,14 +4,14 @@ use native.Mathlib.Omega.{arith}
 use native.Mathlib.Nat.{le-of-suc-le-suc, lt-of-not-le}
 use native.Mathlib.Numerals.{add-one}
 use mathlib.Core.Path.{_≡_, refl, sym, ap, _∙_}
-use mathlib.Core.Logic.{_⊎_, inl, inr, ⊎-elim}
+use mathlib.Core.Logic.{_⊎_, inl, inr, ⊎-elim, _≢_}
 use mathlib.Core.Bool.{Bool, true, false, false≢true, _&&_, _||_, or-comm, or-false, not}
 use mathlib.Core.List.{List}
 use lib.ListN.{length, getD, set, length-append, length-set}
 use lib.Seq.{getD-set-same, getD-set-other}
 use lib.Dec.{eqb, ltb, leb}
 use borrow.Author.Count.{below-more}
-use borrow.Author.Tests.{ltb-true, ltb-false, leb-true, le-leb, eqb-true, eqb-false, eq-eqb}
+use borrow.Author.Tests.{ltb-true, ltb-false, leb-true, le-leb, eqb-true, eqb-false, eq-eqb, ne-eqb}
 use Rattle.model.specs.Store.{vpEntryAt}
 use Rattle.model.specs.Lists.{below}
 use Rattle.model.specs.Tables.{semiJoin}
@@ -26,7 +26,7 @@ use Rattle.tables.specs.Entries.{TableEntryAt}
 use Rattle.tables.specs.LeftRows.{leftRows}
 use Rattle.tables.proofs.Partners.{hasPartner, partner-found, at-column, row-left, row-not-left}
 use Rattle.statistics.specs.Compared.{areCompared}
-use Rattle.statistics.specs.Ranges.{isGapless, RangeOf, rangeAt, hasValue, ColumnRange, AllMeasured, apart, isReached, objectsReached}
+use Rattle.statistics.specs.Ranges.{isGapless, RangeOf, rangeAt, hasValue, ColumnRange, AllMeasured, apart, meetsOther, isReached, objectsReached}
 use Rattle.statistics.proofs.Partnered.{partner-of-value}
 
 -- ---- words without gaps
@@ -211,11 +211,13 @@ module _ (words ranges : List ℕ) (a b p m own q n other : ℕ) (own-column : o
 pub apart-turned : (ranges : List ℕ) (a b : ℕ) → apart ranges a b ≡ apart ranges b a
 apart-turned ranges a b = or-comm (ltb (getD ranges (a + 1) 0) (getD ranges b 0)) (ltb (getD ranges (b + 1) 0) (getD ranges a 0))
 
--- one column that is compared with them is enough for objects to be reached
-pub reached-by : (ranges : List ℕ) (k i p column : ℕ) → p < k → column < 2 → areCompared column 1 ≡ true → apart ranges (rangeAt p column) (rangeAt i 1) ≡ false
-    → objectsReached ranges k i ≡ true
-unfolding objectsReached isReached
-reached-by ranges k i p column h l compared e = go column l compared (into-any (λ q. not (apart ranges (rangeAt q column) (rangeAt i 1))) (into-below k h) (ap not e))
+-- one other column that is compared with them is enough for objects to be reached
+pub reached-by : (ranges : List ℕ) (k i p column : ℕ) → p < k → column < 2 → areCompared column 1 ≡ true → rangeAt p column ≢ rangeAt i 1
+    → apart ranges (rangeAt p column) (rangeAt i 1) ≡ false → objectsReached ranges k i ≡ true
+unfolding objectsReached isReached meetsOther
+reached-by ranges k i p column h l compared other e =
+    go column l compared
+    (into-any (λ q. meetsOther ranges (rangeAt q column) (rangeAt i 1)) (into-below k h) (and-make (ap not (ne-eqb (rangeAt p column) (rangeAt i 1) other)) (ap not e)))
   where
     go : (column : ℕ) → column < 2 → areCompared column 1 ≡ true → isReached ranges k column (rangeAt i 1) ≡ true → objectsReached ranges k i ≡ true
     go zero l compared met = or-left (areCompared 1 1 && isReached ranges k 1 (rangeAt i 1)) (and-make compared met)

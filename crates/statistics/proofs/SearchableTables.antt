@@ -4,6 +4,7 @@ use native.Mathlib.Nat.{zero-add}
 use native.Mathlib.Numerals.{add-one}
 use native.Mathlib.Omega.{arith}
 use mathlib.Core.Path.{_≡_, refl, sym, ap, _∙_}
+use mathlib.Core.Logic.{_≢_}
 use mathlib.Core.Bool.{true, false, _&&_}
 use mathlib.Core.List.{List, [], _∷_, _++_, map, map-append}
 use lib.ListN.{length, getD, take, drop, set, length-map, List·getD-append}
@@ -210,11 +211,11 @@ module _ {count : ℕ} {w : List ℕ} (o : ImageOf count w) where
 
     -- if they are reached; with them the third number of their range is written
     pub sorted-more : (ranges : List ℕ) (whole : ℕ) → AllSorted count w objects ranges i
-        → ((p : ℕ) → p < count → (column : ℕ) → column < 2 → areCompared column 1 ≡ true → apart ranges (rangeAt p column) (rangeAt i 1) ≡ false → CopyOf w (startAt i) (rowsAt i) copy)
+        → ((p : ℕ) → p < count → (column : ℕ) → column < 2 → areCompared column 1 ≡ true → rangeAt p column ≢ rangeAt i 1 → apart ranges (rangeAt p column) (rangeAt i 1) ≡ false → CopyOf w (startAt i) (rowsAt i) copy)
         → AllSorted count w (putBack objects (partAt i) copy rest) (set ranges (rangeAt i 1 + 2) whole) (i + 1)
     sorted-more ranges whole s c =
         below-more
-        (λ j. (p : ℕ) → p < count → (column : ℕ) → column < 2 → areCompared column 1 ≡ true → apart (set ranges (rangeAt i 1 + 2) whole) (rangeAt p column) (rangeAt j 1) ≡ false
+        (λ j. (p : ℕ) → p < count → (column : ℕ) → column < 2 → areCompared column 1 ≡ true → rangeAt p column ≢ rangeAt j 1 → apart (set ranges (rangeAt i 1 + 2) whole) (rangeAt p column) (rangeAt j 1) ≡ false
         → ObjectsSorted w (putBack objects (partAt i) copy rest) (rowsStart count) (startAt j) (rowsAt j)) i
-        (λ j l p m column n compared e. earlier-sorted j l (s j l p m column n compared (sym (apart-again ranges i whole p column j) ∙ e)))
-        (λ p m column n compared e. table-sorted (c p m column n compared (sym (apart-again ranges i whole p column i) ∙ e)))
+        (λ j l p m column n compared other e. earlier-sorted j l (s j l p m column n compared other (sym (apart-again ranges i whole p column j) ∙ e)))
+        (λ p m column n compared other e. table-sorted (c p m column n compared other (sym (apart-again ranges i whole p column i) ∙ e)))

@@ -1,7 +1,8 @@
 -- Tables whose rows can be searched by either column: by the subjects, which ascend, and by the objects, of which a copy ascends where
--- some column that is compared with them reaches them.
+-- some other column that is compared with them reaches them.
 use Prim.Native.Nat.{ℕ, _+_, _-_, _/_, _≤_, _<_}
 use mathlib.Core.Path.{_≡_}
+use mathlib.Core.Logic.{_≢_}
 use mathlib.Core.Bool.{Bool, true, false}
 use mathlib.Core.List.{List}
 use lib.ListN.{length, getD, drop}
@@ -46,10 +47,10 @@ abbrev pub AllSearchable : ℕ → List ℕ → List ℕ → ℕ → Type 0
 AllSearchable count words objects k =
     (i : ℕ) → i < k → Searchable words objects (rowsStart count) (getD words (vpEntryAt i + 2) 0) (getD words (vpEntryAt i + 1) 0)
 
--- the objects of each of the first k are sorted, if a column of some table that is compared with objects is not apart from them
+-- the objects of each of the first k are sorted, if another column of some table that is compared with objects is not apart from them
 abbrev pub AllSorted : ℕ → List ℕ → List ℕ → List ℕ → ℕ → Type 0
 AllSorted count words objects ranges k =
-    (i : ℕ) → i < k → (p : ℕ) → p < count → (column : ℕ) → column < 2 → areCompared column 1 ≡ true → apart ranges (rangeAt p column) (rangeAt i 1) ≡ false
+    (i : ℕ) → i < k → (p : ℕ) → p < count → (column : ℕ) → column < 2 → areCompared column 1 ≡ true → rangeAt p column ≢ rangeAt i 1 → apart ranges (rangeAt p column) (rangeAt i 1) ≡ false
     → ObjectsSorted words objects (rowsStart count) (getD words (vpEntryAt i + 2) 0) (getD words (vpEntryAt i + 1) 0)
 
 -- what question 10 makes once of an image: a copy of objects and ranges of columns, by which its tables are searched

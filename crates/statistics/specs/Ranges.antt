@@ -45,11 +45,15 @@ AllMeasured words ranges k =
 abbrev pub apart : List ℕ → ℕ → ℕ → Bool
 apart ranges a b = ltb (getD ranges (a + 1) 0) (getD ranges b 0) || ltb (getD ranges (b + 1) 0) (getD ranges a 0)
 
--- a column of some of the first k tables is not apart from the range at a place
-unfoldable pub isReached : List ℕ → ℕ → ℕ → ℕ → Bool
-isReached ranges k column place = any (λ p. not (apart ranges (rangeAt p column) place)) (below k)
+-- the range at a place is that of another column, and is not apart from it
+unfoldable pub meetsOther : List ℕ → ℕ → ℕ → Bool
+meetsOther ranges a b = not (eqb a b) && not (apart ranges a b)
 
--- a column that is compared with objects is not apart from the objects of table i
+-- a column of some of the first k tables, other than the one whose range stands at a place, is not apart from it
+unfoldable pub isReached : List ℕ → ℕ → ℕ → ℕ → Bool
+isReached ranges k column place = any (λ p. meetsOther ranges (rangeAt p column) place) (below k)
+
+-- another column that is compared with objects is not apart from the objects of table i
 unfoldable pub objectsReached : List ℕ → ℕ → ℕ → Bool
 objectsReached ranges k i =
     (areCompared 0 1 && isReached ranges k 0 (rangeAt i 1)) || (areCompared 1 1 && isReached ranges k 1 (rangeAt i 1))

@@ -41,7 +41,7 @@ fn copy_reached(w: &[u32], start: usize, n: usize, reached: bool, copy: &mut [u3
     0
 }
 
-// The objects of each table that columns compared with them reach, in ascending order: a word for each row, in the order of the tables. With
+// The objects of each table that other columns compared with them reach, in ascending order: a word for each row, in the order of the tables. With
 // them it is told of their range whether numbers are missing.
 pub fn copy_objects(w: &[u32], count: usize, ranges: &mut [u32; 96], objects: &mut [u32])
     requires { ⌜ ImageOf count (now w) × (rowTotal (siteIn count (now w)) ≤ length (now objects)) × AllMeasured (now w) (now ranges) count × (length (now ranges) ≡ 96) ⌝ }

@@ -5,7 +5,7 @@ ghost use Rattle.model.specs.Site.{mostPredicates};
 ghost use Rattle.tables.specs.SiteWords.{ImageOf};
 ghost use Rattle.searching.specs.Search.{SortedRun};
 ghost use Rattle.statistics.specs.Compared.{areCompared};
-ghost use Rattle.statistics.specs.Ranges.{isGapless, RangeOf, rangeAt, hasValue, AllMeasured, apart, isReached, objectsReached};
+ghost use Rattle.statistics.specs.Ranges.{isGapless, RangeOf, rangeAt, hasValue, AllMeasured, apart, meetsOther, isReached, objectsReached};
 use tables::layout::table_entry;
 
 // Whether each of n ascending words is at most one above the word before it, so that no number between the first and the last is missing.
@@ -122,20 +122,31 @@ pub fn columns_apart(ranges: &[u32; 96], a: usize, b: usize) -> bool
     ranges[b + 1] < ranges[a]
 }
 
-// Whether a column of some table is not apart from the range at a place.
+// Whether two ranges are those of two columns, and some value may be in both.
+fn meets_other(ranges: &[u32; 96], a: usize, b: usize) -> bool
+    requires { ⌜ (a + 3 ≤ 96) × (b + 3 ≤ 96) ⌝ }
+    ensures { λ r. ⌜ r ≡ meetsOther (now (ranges .entry)) a b ⌝ }
+{
+    if a == b {
+        return false;
+    }
+    !columns_apart(ranges, a, b)
+}
+
+// Whether a column of some table, other than the one whose range stands at a place, is not apart from it.
 fn is_reached(ranges: &[u32; 96], count: usize, column: usize, place: usize) -> bool
     requires { ⌜ (count ≤ mostPredicates) × (column < 2) × (place + 3 ≤ 96) ⌝ }
     ensures { λ r. ⌜ r ≡ isReached (now (ranges .entry)) count column place ⌝ }
 {
     for p in 0..count {
-        if !columns_apart(ranges, range_at(p, column), place) {
+        if meets_other(ranges, range_at(p, column), place) {
             return true;
         }
     }
     false
 }
 
-// Whether a column that is compared with objects is not apart from the objects of table i, told which columns are.
+// Whether another column that is compared with objects is not apart from the objects of table i, told which columns are.
 pub fn objects_reached(
     ranges: &[u32; 96],
     count: usize,

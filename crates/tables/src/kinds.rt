@@ -4,13 +4,13 @@ ghost use Rattle.model.specs.Site.{mostRows};
 ghost use Rattle.model.specs.Tables.{isStored, kindAt, kindCount, mostThreshold};
 ghost use Rattle.tables.specs.Columns.{columnOf};
 
-// The kinds of semi-join: SS, OS, SO.
-pub const KINDS: usize = 3;
+// The kinds of semi-join: SS, OS, SO, OO.
+pub const KINDS: usize = 4;
 
 // The column of the row in each kind, and that of its partner: a bit for each kind, from the lowest up, 0 for the subject, 1 for the object.
-const OWN_COLUMNS: usize = 0b010;
+const OWN_COLUMNS: usize = 0b1010;
 
-const PARTNER_COLUMNS: usize = 0b100;
+const PARTNER_COLUMNS: usize = 0b1100;
 
 // The column of the row in kind k.
 pub fn own_column(k: usize) -> usize

@@ -4,6 +4,7 @@ use mathlib.Core.List.{[], _∷_, map}
 use Rattle.model.specs.Lists.{concatMap}
 use Rattle.model.proofs.Cases.{Hold, cases, worked}
 use Rattle.model.proofs.AnswerCases.{refusedSites, siteRefusal, sites-refused, buildCases, builds-worked, refusedChecks, checkRefusals, checks-refused, refusedPlans, planRefusals, plans-refused, runCases, runs-worked, shopJoined, met, first-step, plannerCases, plans-worked, widenedCases, widened-worked, printedCases, printed-worked}
+use Rattle.model.proofs.SharedObjectCases.{sharedObjectCases, shared-objects-worked}
 
 -- ==== The worked shop: cases (a) to (j)
 
@@ -39,11 +40,19 @@ Wider-Answers-Hold = Hold widenedCases
 pub wider-answers-hold : Wider-Answers-Hold
 wider-answers-hold = widened-worked
 
--- ==== A step keeps each partial solution with each row of its table that agrees: choice 4 at place 0 of the shop's check gives the two
+-- ==== S-14: two sensors on one door, whose check takes a stored OO table
+
+abbrev pub Shared-Objects-Hold : Type 0
+Shared-Objects-Hold = Hold sharedObjectCases
+
+pub shared-objects-hold : Shared-Objects-Hold
+shared-objects-hold = shared-objects-worked
+
+-- ==== A step keeps each partial solution with each row of its table that agrees: choice 5 at place 0 of the shop's check gives the two
 -- rows of the reduced table, and not the three of VP
 
 abbrev pub First-Step-Joined : Type 0
-First-Step-Joined = shopJoined (record { place = 0; choice = 4 } ∷ []) 1 ≡ met 10 20 ∷ met 11 21 ∷ []
+First-Step-Joined = shopJoined (record { place = 0; choice = 5 } ∷ []) 1 ≡ met 10 20 ∷ met 11 21 ∷ []
 
 pub first-step-joined : First-Step-Joined
 first-step-joined = first-step

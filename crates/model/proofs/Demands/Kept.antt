@@ -109,7 +109,8 @@ calls-answer-as-they-did = (
   λ words bytes steps. answer-still isRefused (λ n. refl) (whether-kept limitsOf01 limitsInForce widened asked refl words (store-reply words) bytes refl steps),
 )
 
--- a store kept from before, whatever stands past its words, is the store of the site that it was built from
+-- the words of a site within the limits of 01, whatever stands past them, are its store, and what is a store under them is one; a store that was
+-- kept from before S-14 lists three kinds, and is none (three-kinds-refused, of SharedObjects)
 abbrev pub Stores-Are-Stores-Still : Type 0
 Stores-Are-Stores-Still =
     ((t : ℕ) (site : Site) (rest : List ℕ) → t ≤ mostThreshold → isSiteUnder limitsOf01 site ≡ true → Holds (layout t site ++ rest) t site)

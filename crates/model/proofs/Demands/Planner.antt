@@ -26,13 +26,17 @@ use Rattle.model.proofs.ChainRows.{steps-padded}
 
 -- ==== The tables that may be chosen
 
--- k = 0, SS; k = 1, OS; k = 2, SO
+-- k = 0, SS; k = 1, OS; k = 2, SO; k = 3, OO, by S-14
 abbrev pub Kinds-Named : Type 0
 Kinds-Named =
-    (kindCount ≡ 3) × (kindAt 0 ≡ (subject, subject)) × (kindAt 1 ≡ (object, subject)) × (kindAt 2 ≡ (subject, object))
+    (kindCount ≡ 4)
+    × (kindAt 0 ≡ (subject, subject))
+    × (kindAt 1 ≡ (object, subject))
+    × (kindAt 2 ≡ (subject, object))
+    × (kindAt 3 ≡ (object, object))
 
 pub kinds-named : Kinds-Named
-kinds-named = (refl, refl, refl, refl)
+kinds-named = (refl, refl, refl, refl, refl)
 
 -- the columns of a row and the named positions of a triple pattern: its subject, its object
 abbrev pub Columns-Named : Type 0
@@ -50,7 +54,7 @@ Qualifies-Exactly = (pattern : Pattern) (i j : ℕ) (k : Kind) → (qualifies pa
 pub qualifies-exactly : Qualifies-Exactly
 qualifies-exactly pattern i j k = (qualifying pattern i j k, qualified)
 
--- choice 0, or 1 + 3j + k where that table qualifies and is stored; no other may be chosen
+-- choice 0, or 1 + 4j + k where that table qualifies and is stored; no other may be chosen
 abbrev pub May-Choose-Exactly : Type 0
 May-Choose-Exactly =
     (store : Store) (pattern : Pattern) (i c : ℕ) → (mayChoose store pattern i c ≡ true) ↔ ((c ≡ 0) ⊎ StoredChoice store pattern i c)
@@ -58,12 +62,12 @@ May-Choose-Exactly =
 pub may-choose-exactly : May-Choose-Exactly
 may-choose-exactly store pattern i c = (may-choose store pattern i c, may-be-chosen store pattern i c)
 
--- choice 0 is the VP table of the predicate at place i; choice 1 + 3j + k is kind k against the triple pattern at place j
+-- choice 0 is the VP table of the predicate at place i; choice 1 + 4j + k is kind k against the triple pattern at place j
 abbrev pub Chosen-Table : Type 0
 Chosen-Table =
     (site : Site) (pattern : Pattern) (i : ℕ)
     → (chosenTable site pattern i 0 ≡ fullTable site pattern i)
-    × ((j k : ℕ) → k < 3 → chosenTable site pattern i (1 + (3 * j + k)) ≡ reducedTable site pattern i j (kindAt k))
+    × ((j k : ℕ) → k < 4 → chosenTable site pattern i (1 + (4 * j + k)) ≡ reducedTable site pattern i j (kindAt k))
     × ((j : ℕ) (k : Kind) → reducedTable site pattern i j k ≡ semiJoin k (fullTable site pattern i) (fullTable site pattern j))
     × ((p : ℕ) → tripleAt pattern i .predicate ≡ Term p → fullTable site pattern i ≡ vp site p)
 

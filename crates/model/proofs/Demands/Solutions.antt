@@ -92,7 +92,8 @@ pub demand-2-vp : VP-Is-Exact
 demand-2-vp site p h = (vp-ascends site p h, λ r. (fact-vp site p r, vp-fact site (r .0, p, r .1)))
 
 -- for any pair of columns: a row is in the semi-join exactly if it is a row of p and some row of q has its value at the other column;
--- the reduced table keeps the order and has each row once
+-- the reduced table keeps the order and has each row once. SS, OS and SO are judged by the paper; OO, which it leaves out, by 02's line, "rows
+-- of p whose object is an object in q" (demand-2-objects, of SharedObjects)
 abbrev pub SemiJoins-Are-Exact : Type 0
 SemiJoins-Are-Exact =
     (k : Kind) (p q : List Row)

@@ -46,8 +46,8 @@ store-first-words t site = (refl, refl, layout-used t site)
 abbrev pub Entry-Places : Type 0
 Entry-Places =
     ((i : ℕ) → vpEntryAt i ≡ 3 + 3 * i)
-    × ((p i j k : ℕ) → semiJoinEntryAt p i j k ≡ 3 + 3 * p + 2 * ((i * p + j) * 3 + k))
-    × ((p : ℕ) → rowsStart p ≡ 3 + 3 * p + 2 * (3 * (p * p)))
+    × ((p i j k : ℕ) → semiJoinEntryAt p i j k ≡ 3 + 3 * p + 2 * ((i * p + j) * 4 + k))
+    × ((p : ℕ) → rowsStart p ≡ 3 + 3 * p + 2 * (4 * (p * p)))
 
 pub store-entry-places : Entry-Places
 store-entry-places = ((λ i. refl), (λ p i j k. refl), λ p. omega arith)
@@ -97,10 +97,10 @@ store-vp t site i proper h =
 -- the semi-joins, for each p, each q, each k, in that nesting
 abbrev pub SemiJoins-Nested : Type 0
 SemiJoins-Nested =
-    (site : Site) (i j k : ℕ) (none : Reduced) → i < length site → j < length site → k < 3
+    (site : Site) (i j k : ℕ) (none : Reduced) → i < length site → j < length site → k < 4
     → let p = tableAt site i .rows in
     let q = tableAt site j .rows in
-    getD (semiJoins site) ((i * length site + j) * 3 + k) none ≡ record { full = p; rows = semiJoin (kindAt k) p q }
+    getD (semiJoins site) ((i * length site + j) * 4 + k) none ≡ record { full = p; rows = semiJoin (kindAt k) p q }
 
 pub store-semi-joins-nested : SemiJoins-Nested
 store-semi-joins-nested site i j k none hi hj hk = head-block (semi-join-block site i j k hi hj hk) none
@@ -149,7 +149,7 @@ store-built = built-holds
 -- a store of this many words always suffices: question 9 is never answered no
 abbrev pub Store-Words-Suffice : Type 0
 Store-Words-Suffice =
-    (mostStoreWords ≡ 101939)
+    (mostStoreWords ≡ 135219)
     × ((t : ℕ) (bytes memory : List ℕ) → mostStoreWords ≤ length memory → build t bytes memory .answer ≡ Refused 9 → ⊥)
 
 pub store-words-suffice : Store-Words-Suffice

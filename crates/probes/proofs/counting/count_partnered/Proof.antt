@@ -3,10 +3,10 @@ use native.Mathlib.Omega.{arith}
 use native.Mathlib.Nat.{le-refl}
 use mathlib.Core.Path.{_≡_, sym, _∙_}
 use borrow.Author.Needs.{needs}
-use borrow.Author.Tests.{leb-true, eqb-true}
+use borrow.Author.Tests.{leb-true}
 use Rattle.tables.specs.LeftRows.{leftRows}
 use Rattle.statistics.proofs.ColumnRanges.{all-left}
-use Rattle.statistics.proofs.Partnered.{same-subjects, objects-run, own-left, rows-left}
+use Rattle.statistics.proofs.Partnered.{same-subjects, objects-run, rows-left}
 use Rattle.probes.proofs.counting.count_partnered.Statement.{statement}
 use Rattle.probes.proofs.counting.count_partnered.Tie as tie
 
@@ -58,46 +58,37 @@ returns c =
     sym (all-left (a .w .now) (a .ranges .now) (a .a) (a .b) (o .start) (o .rows) (o .own) (o .against) (o .partners) (o .other) (own .small) (own .table .subjects .inside)
     (s .pre .1 .0 .1) (s .pre .1 .1 .1) (c .before .before .if1 .taken) (leb-true _ _ (c .before .if2 .taken)) (leb-true _ _ (c .if3 .taken)) (o .rows) (le-refl _))
 
-returns-2 : tie.Need-returns-2
-returns-2 c =
-    let s = c .before .before .before .before .before .before .before .before .before .before .before .before .before .before in
-    let a = s .args in
-    let o = a .o in
-    let same : o .start ≡ o .against = c .before .before .before .before .if4 .taken in
-    let column : o .own ≡ o .other = eqb-true (o .own) (o .other) (c .before .before .if5 .taken) in
-    rw (same, column) (sym (own-left (a .w .now) (o .against) (o .other) (o .partners) (s .pre .0 .1 .small) (s .pre .0 .1 .table .subjects .inside) (o .rows) (leb-true _ _ (c .if6 .taken))))
-
 should-filter-requires : tie.Need-should-filter-requires
 should-filter-requires c κs = search needs
 
 count-filtered-requires : tie.Need-count-filtered-requires
 count-filtered-requires c κs = search needs
 
-returns-3 : tie.Need-returns-3
+returns-2 : tie.Need-returns-2
 unfolding leftRows
-returns-3 c =
-    let s = c .before .before .before .before .before .before .before .before .before .before .before .before .before .before in
+returns-2 c =
+    let s = c .before .before .before .before .before .before .before .before .before .before .before .before in
     let a = s .args in
     let o = a .o in
-    rw (c .before .if7 .taken) (c .count-filtered .ensures ∙ rows-left 0 (a .w .now) (o .against) (o .partners) (o .other) (same-subjects _ _ _ (s .pre .0 .0 .table .subjects .inside)))
+    rw (c .before .if4 .taken) (c .count-filtered .ensures ∙ rows-left 0 (a .w .now) (o .against) (o .partners) (o .other) (same-subjects _ _ _ (s .pre .0 .0 .table .subjects .inside)))
 
 sub-copy : tie.Need-sub-copy
 sub-copy c = search needs
 
 count-filtered-requires-2 : tie.Need-count-filtered-requires-2
 count-filtered-requires-2 c κs =
-    let pre = c .before .before .before .before .before .before .before .before .before .before .before .before .before .before .pre in
+    let pre = c .before .before .before .before .before .before .before .before .before .before .before .before .pre in
     let own = pre .0 .0 in
-    (objects-run (own .table) (own .sorted (omega (arith, own .small, c .before .if7 .left))), pre .0 .1)
+    (objects-run (own .table) (own .sorted (omega (arith, own .small, c .before .if4 .left))), pre .0 .1)
 
-returns-4 : tie.Need-returns-4
+returns-3 : tie.Need-returns-3
 unfolding leftRows
-returns-4 c =
-    let s = c .before .before .before .before .before .before .before .before .before .before .before .before .before .before .before in
+returns-3 c =
+    let s = c .before .before .before .before .before .before .before .before .before .before .before .before .before in
     let a = s .args in
     let o = a .o in
     let own = s .pre .0 .0 in
-    let object : o .own ≡ 1 = omega (arith, own .small, c .before .before .if7 .left) in
+    let object : o .own ≡ 1 = omega (arith, own .small, c .before .before .if4 .left) in
     rw object (c .count-filtered2 .ensures ∙ rows-left 1 (a .w .now) (o .against) (o .partners) (o .other) (own .sorted object .same-objects))
 
 pub count-partnered-spec : {M : Type 1} → statement M
@@ -118,10 +109,9 @@ count-partnered-spec =
     mul-if1
     element-copy-out-if1
     returns
-    returns-2
     should-filter-requires
     count-filtered-requires
-    returns-3
+    returns-2
     sub-copy
     count-filtered-requires-2
-    returns-4)
+    returns-3)

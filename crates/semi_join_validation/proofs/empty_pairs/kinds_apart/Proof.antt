@@ -54,7 +54,7 @@ columns-apart-requires c κs = (omega arith, omega arith)
 returns : tie.Need-returns Inv-loop μ-loop
 returns c =
     let turn = c .before .before .before .before .before .before in
-    sym (to-false _ (λ e. not-both (kind-apart _ _ _ e _ (turn .loop-test .taken)) (answer (c .before) ∙ not-true _ (c .if1 .taken))))
+    sym (to-false _ (λ e. not-both (kind-apart _ _ _ e (turn .before .loop .k) (omega (arith, turn .loop-test .taken))) (answer (c .before) ∙ not-true _ (c .if1 .taken))))
 
 add-k : tie.Need-add-k Inv-loop μ-loop
 add-k c = omega arith

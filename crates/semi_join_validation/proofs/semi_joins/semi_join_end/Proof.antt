@@ -2,14 +2,14 @@
 use Prim.Native.Nat.{ℕ, _+_, _*_, _≤_, _<_}
 use native.Mathlib.Omega.{arith}
 use mathlib.Core.Path.{_≡_, refl, sym, ap, ap₂, _∙_, subst}
-use mathlib.Core.Logic.{⊎-elim}
-use mathlib.Core.Bool.{true, false}
+use mathlib.Core.Logic.{_≢_}
+use mathlib.Core.Bool.{true, false, cond}
 use lib.ListN.{length, getD}
-use borrow.Author.Tests.{eqb-true, eqb-false, not-true, not-false}
 use borrow.Author.Needs.{needs}
 use Rattle.model.specs.Site.{mostPredicates}
 use Rattle.model.specs.Tables.{isStored, kindAt, kindCount}
 use Rattle.model.specs.Store.{Reduced, vpEntryAt, semiJoinPlace, semiJoinEntryAt}
+use Rattle.model.proofs.MayChoose.{whole-not-stored}
 use Rattle.tables.specs.Columns.{columnOf}
 use Rattle.tables.specs.LeftRows.{leftOf}
 use Rattle.tables.specs.SiteWords.{siteIn, reducedAt}
@@ -17,9 +17,11 @@ use Rattle.tables.proofs.Images.{few-predicates, entries-inside}
 use Rattle.tables.proofs.Entries.{place-below, counted-of, left-fewer}
 use Rattle.statistics.specs.IndexedTables.{SearchableBy}
 use Rattle.statistics.specs.Ranges.{rangeAt, ColumnRange, apart}
+use Rattle.semi_join_validation.specs.Joins.{notStoredHolds}
+use Rattle.site_validation.specs.declared.entries.Extent.the-variants.{Ends, Invalid}
 use Rattle.semi_join_validation.proofs.EmptyPairs.{apart-none, none-stored}
-use Rattle.semi_join_validation.proofs.IndexedOperands.{rows-searchable, own-range, partner-range, rows-by-column, partners-by-column}
-use Rattle.semi_join_validation.proofs.Join.{stored-same, ends-wrong, ends-stored, not-stored, ends-not-stored}
+use Rattle.semi_join_validation.proofs.IndexedOperands.{rows-searchable, own-range, partner-range, rows-by-column, partners-by-column, itself-left}
+use Rattle.semi_join_validation.proofs.Join.{end, stored-same, ends-wrong, ends-stored, ends-counted}
 use Rattle.semi_join_validation.proofs.semi_joins.semi_join_end.Statement.{statement}
 use Rattle.semi_join_validation.proofs.semi_joins.semi_join_end.Tie as tie
 
@@ -75,10 +77,16 @@ module _ (e : tie.After-semi-join-entry) where
   start-read : e .semi-join-entry .result .start ≡ getD (begun .args .w .now) (entryAt begun + 1) 0
   start-read = e .semi-join-entry .ensures .start ∙ ap (λ (n : ℕ). getD (begun .args .w .now) (n + 1) 0) (entry-place (e .before))
 
+  -- the answer by a count of the rows that are left, none of which is stored
+  entry-ends : (n : ℕ) → n ≡ length (semiJoinOf begun .rows) → (getD (begun .args .w .now) (entryAt begun) 0 ≡ n → isStored (begun .args .t) n (length (semiJoinOf begun .full)) ≡ false)
+      → cond (notStoredHolds (e .semi-join-entry .result .rows) (e .semi-join-entry .result .start) n) (Ends (begun .args .here)) Invalid
+      ≡ end (begun .args .t) (begun .args .w .now) (semiJoinOf begun) (entryAt begun) (begun .args .here) (begun .args .used)
+  entry-ends n count unstored = rw (left-read, start-read) (ends-counted _ _ _ _ _ _ n count unstored (begun .pre .0 .5))
+
 -- what is known once the columns are compared
 module _ (c : tie.After-columns-apart) where
   abbrev read : tie.After-semi-join-entry
-  read = c .before .before .before
+  read = c .before .before .before .before
 
   abbrev operands : tie.After-operands-of
   operands = read .before
@@ -87,7 +95,13 @@ module _ (c : tie.After-columns-apart) where
   first = start operands
 
   answer : apart (first .args .ranges .now) (rangeAt (first .args .p) (own operands)) (rangeAt (first .args .q) (other operands)) ≡ c .columns-apart .result
-  answer = rw (sym (c .before .before .range-at .ensures), sym (c .before .range-at2 .ensures)) (sym (c .columns-apart .ensures))
+  answer = rw (sym (c .before .before .before .range-at .ensures), sym (c .before .before .range-at2 .ensures)) (sym (c .columns-apart .ensures))
+
+  -- they are two
+  differ : rangeAt (first .args .p) (own operands) ≢ rangeAt (first .args .q) (other operands)
+  differ e =
+      let ranged = c .before .before in
+      c .before .if1 .left (omega (arith, e, ranged .before .range-at .ensures, ranged .range-at2 .ensures, own-column operands .0, partner-column operands .0))
 
   -- no row is left, if they are apart
   none : c .columns-apart .result ≡ true → length (semiJoinOf first .rows) ≡ 0
@@ -99,21 +113,21 @@ module _ (c : tie.After-columns-apart) where
   own-side : c .columns-apart .result ≡ false
       → SearchableBy (first .args .w .now) (first .args .objects .now) (first .args .first) (operands .operands-of .result .start) (operands .operands-of .result .rows) (own operands)
   own-side left =
-      rows-by-column (first .pre .1 .0) (first .pre .1 .1) (first .pre .0 .1) (first .pre .0 .2) (first .pre .0 .3) _ (operands .operands-of .ensures .1) (own-column operands .0) (partner-column operands .0) (answer ∙ left)
+      rows-by-column (first .pre .1 .0) (first .pre .1 .1) (first .pre .0 .1) (first .pre .0 .2) (first .pre .0 .3) _ (operands .operands-of .ensures .1) (own-column operands .0) (partner-column operands .0) differ (answer ∙ left)
 
   partner-side : c .columns-apart .result ≡ false
       → SearchableBy (first .args .w .now) (first .args .objects .now) (first .args .first) (operands .operands-of .result .against) (operands .operands-of .result .partners) (other operands)
   partner-side left =
-      partners-by-column (first .pre .1 .0) (first .pre .1 .1) (first .pre .0 .1) (first .pre .0 .2) (first .pre .0 .3) _ (operands .operands-of .ensures .1) (own-column operands .0) (partner-column operands .0) (answer ∙ left)
+      partners-by-column (first .pre .1 .0) (first .pre .1 .1) (first .pre .0 .1) (first .pre .0 .2) (first .pre .0 .3) _ (operands .operands-of .ensures .1) (own-column operands .0) (partner-column operands .0) differ (answer ∙ left)
 
   -- the range of the partners' column stands at its place
-  their-range : let o = operands .operands-of .result in let place = c .before .range-at2 .result in
+  their-range : let o = operands .operands-of .result in let place = c .before .before .range-at2 .result in
       (place + 3 ≤ 96) × ColumnRange (first .args .w .now) (o .against) (o .partners) (o .other) (first .args .ranges .now) place
   their-range = (
-    omega (arith, c .before .range-at2 .ensures, few first .1, partner-column operands .0),
+    omega (arith, c .before .before .range-at2 .ensures, few first .1, partner-column operands .0),
     subst
         (ColumnRange (first .args .w .now) (operands .operands-of .result .against) (operands .operands-of .result .partners) (other operands) (first .args .ranges .now))
-        (sym (c .before .range-at2 .ensures))
+        (sym (c .before .before .range-at2 .ensures))
         (partner-range (first .pre .1 .0) (first .pre .1 .1) (first .pre .0 .1) (first .pre .0 .2) (first .pre .0 .3) _ (operands .operands-of .ensures .1) (own-column operands .0) (partner-column operands .0)),
   )
 
@@ -140,42 +154,49 @@ range-at-requires-2 c κs =
     let o = c .before .before in
     (few (start o) .1, partner-column o .0)
 
-columns-apart-requires : tie.Need-columns-apart-requires
-columns-apart-requires c κs =
-    let o = c .before .before .before in
-    let small = few (start o) in
-    (omega (arith, c .before .range-at .ensures, own-column o .0), omega (arith, c .range-at2 .ensures, partner-column o .0))
+not-stored-end-requires : tie.Need-not-stored-end-requires
+not-stored-end-requires c κs = search needs
 
 returns : tie.Need-returns
 returns c =
-    let test = c .before in
-    let e = read (test .before) in
-    let empty = none (test .before) (test .if1 .taken) in
-    ends-wrong _ _ _ _ _ _
-    (λ j.
-    let count = j .count ∙ empty in
-    ⊎-elim (λ w. w .taken (left-read e ∙ count)) (λ w. eqb-false _ _ (not-true _ (w .1 .taken)) (start-read e ∙ not-stored _ _ _ _ _ _ (none-stored _ _ _ count) j)) (c .if2 .came))
+    let ranged = c .before .before in
+    let e = ranged .before .before in
+    let o = e .before in
+    let s = begun e in
+    let rows = o .operands-of .result .rows in
+    let same : rangeAt (s .args .p) (own o) ≡ rangeAt (s .args .q) (other o) = omega (arith, ranged .before .range-at .ensures, c .before .if1 .taken, ranged .range-at2 .ensures) in
+    let known = o .operands-of .ensures .0 in
+    c .not-stored-end .ensures
+    ∙ entry-ends e rows (counted o (itself-left (s .args .w .now) _ (o .operands-of .ensures .1) (own-column o .0) (partner-column o .0) (known .inside) same))
+    (λ _. rw (sym (known .full)) (whole-not-stored (s .args .t) rows (s .pre .0 .4)))
+
+columns-apart-requires : tie.Need-columns-apart-requires
+columns-apart-requires c κs =
+    let o = c .before .before .before .before in
+    let small = few (start o) in
+    (omega (arith, c .before .before .range-at .ensures, own-column o .0), omega (arith, c .before .range-at2 .ensures, partner-column o .0))
+
+not-stored-end-requires-2 : tie.Need-not-stored-end-requires-2
+not-stored-end-requires-2 c κs = search needs
 
 returns-2 : tie.Need-returns-2
 returns-2 c =
-    let test = c .before .before in
+    let test = c .before in
     let e = read (test .before) in
-    let empty = none (test .before) (test .if1 .taken) in
-    let count = sym (left-read e) ∙ c .before .if2 .left in
-    ends-not-stored _ _ _ _ _ _ (none-stored _ _ _ count) (count ∙ sym empty) (sym (start-read e) ∙ eqb-true _ _ (not-false _ (c .if3 .left))) (begun e .pre .0 .5)
+    c .not-stored-end2 .ensures ∙ entry-ends e 0 (sym (none (test .before) (test .if2 .taken))) (λ _. none-stored _ _ _ refl)
 
 returns-3 : tie.Need-returns-3
 returns-3 c =
     let e = read (c .before .before .before) in
     let s = begun e in
-    ends-wrong _ _ _ _ _ _ (λ j. omega (arith, j .count, left-fewer (s .pre .0 .0) (place s) (among s), e .before .operands-of .ensures .0 .full, left-read e, c .if4 .taken))
+    ends-wrong _ _ _ _ _ _ (λ j. omega (arith, j .count, left-fewer (s .pre .0 .0) (place s) (among s), e .before .operands-of .ensures .0 .full, left-read e, c .if3 .taken))
 
 is-stored-requires : tie.Need-is-stored-requires
 is-stored-requires c κs =
     let e = read (c .before .before .before) in
     let s = begun e in
     let small = counted-of (s .pre .0 .0) (place s) (among s) refl (e .before .operands-of .ensures .0 .full) .full-few in
-    (s .pre .0 .4, omega (arith, small, c .if4 .left), small)
+    (s .pre .0 .4, omega (arith, small, c .if3 .left), small)
 
 stored-end-requires : tie.Need-stored-end-requires
 stored-end-requires c κs =
@@ -187,9 +208,9 @@ stored-end-requires c κs =
         record {
           rows = rows-searchable (s .pre .1 .0) (s .pre .1 .1) (s .pre .0 .1) (s .pre .0 .2) (s .pre .0 .3) _ (o .operands-of .ensures .1) (own-column o .0) (partner-column o .0);
           own-column = own-column o .0;
-          partners = partner-side after (apart-not .if1 .left);
+          partners = partner-side after (apart-not .if2 .left);
         },
-        omega (arith, c .before .before .if4 .left),
+        omega (arith, c .before .before .if3 .left),
         s .pre .0 .5,
         s .pre .0 .6,
       ),
@@ -202,44 +223,36 @@ returns-4 c =
     let e = read (test .before .before .before .before .before) in
     c .stored-end .ensures
     ∙ stored-same _ _ _ _ _ _ (e .before .operands-of .ensures .0 .left) (start-read e) (left-read e)
-    ∙ ends-stored _ _ _ _ _ _ (asked (test .before) ∙ test .if5 .taken) (begun e .pre .0 .6)
+    ∙ ends-stored _ _ _ _ _ _ (asked (test .before) ∙ test .if4 .taken) (begun e .pre .0 .6)
 
 count-partnered-requires : tie.Need-count-partnered-requires
 count-partnered-requires c κs =
-    let apart-not = c .before .before .before .before .before in
+    let apart-not = c .before .before .before .before in
     let after = apart-not .before in
     let o = operands after in
     let s = start o in
     let small = few s in (
-      (own-side after (apart-not .if1 .left), partner-side after (apart-not .if1 .left)),
+      (own-side after (apart-not .if2 .left), partner-side after (apart-not .if2 .left)),
       (
         (
-          omega (arith, after .before .before .range-at .ensures, own-column o .0),
-          rw (after .before .before .range-at .ensures)
+          omega (arith, after .before .before .before .range-at .ensures, own-column o .0),
+          rw (after .before .before .before .range-at .ensures)
               (own-range (s .pre .1 .0) (s .pre .1 .1) (s .pre .0 .1) (s .pre .0 .2) (s .pre .0 .3) _ (o .operands-of .ensures .1) (own-column o .0) (partner-column o .0)),
         ),
         their-range after,
       ),
     )
 
+not-stored-end-requires-3 : tie.Need-not-stored-end-requires-3
+not-stored-end-requires-3 c κs = search needs
+
 returns-5 : tie.Need-returns-5
 returns-5 c =
-    let test = c .before in
+    let counting = c .before in
+    let test = counting .before in
     let e = read (test .before .before .before .before .before) in
-    ends-wrong _ _ _ _ _ _
-    (λ j.
-    ⊎-elim
-    (λ w. w .taken (start-read e ∙ not-stored _ _ _ _ _ _ (asked (test .before) ∙ test .if5 .left) j))
-    (λ w. eqb-false _ _ (not-true _ (w .2 .taken)) (counted (e .before) (w .1 .ensures) ∙ sym (j .count) ∙ sym (left-read e)))
-    (c .if6 .came))
-
-returns-6 : tie.Need-returns-6
-returns-6 c =
-    let test = c .before .before .before in
-    let e = read (test .before .before .before .before .before) in
-    let same = eqb-true _ _ (not-false _ (c .if7 .left)) in
-    ends-not-stored _ _ _ _ _ _ (asked (test .before) ∙ test .if5 .left) (sym (left-read e) ∙ sym same ∙ counted (e .before) (c .before .count-partnered .ensures))
-    (sym (start-read e) ∙ c .before .before .if6 .left) (begun e .pre .0 .5)
+    c .not-stored-end3 .ensures
+    ∙ entry-ends e (counting .count-partnered .result) (counted (e .before) (counting .count-partnered .ensures)) (λ same. rw (sym same) (asked (test .before) ∙ test .if4 .left))
 
 pub semi-join-end-spec : {M : Type 1} → statement M
 semi-join-end-spec =
@@ -249,13 +262,15 @@ semi-join-end-spec =
     semi-join-entry-requires
     range-at-requires
     range-at-requires-2
-    columns-apart-requires
+    not-stored-end-requires
     returns
+    columns-apart-requires
+    not-stored-end-requires-2
     returns-2
     returns-3
     is-stored-requires
     stored-end-requires
     returns-4
     count-partnered-requires
-    returns-5
-    returns-6)
+    not-stored-end-requires-3
+    returns-5)

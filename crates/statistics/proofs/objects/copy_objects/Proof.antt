@@ -152,7 +152,7 @@ loop-again c =
       rw (part-start entry, c .range-at .ensures)
           (sorted-more (image entry) (loop .objects) copy _ (loop .i) among room
           (omega (arith, part entry, read .rows, back .given .0, put .before .copy-reached-arg .given .2)) (loop .ranges) whole (inv .3)
-          (λ p m column n compared e. copy-of-table _ read (put .copy-reached .ensures .0 (asked ∙ reached-by (loop .ranges) (s .args .count) (loop .i) p column m n compared e)))),
+          (λ p m column n compared other e. copy-of-table _ read (put .copy-reached .ensures .0 (asked ∙ reached-by (loop .ranges) (s .args .count) (loop .i) p column m n compared other e)))),
       rw (c .range-at .ensures)
           (measured-again (loop .ranges) (loop .i) whole w (s .args .count) (omega (arith, few entry, inv .1)) (inv .4)
           (range-whole _ whole copy _
