@@ -1,7 +1,8 @@
 /* plain.h - what the engine's speed is compared with: its calls in plain C, two ways (plain.c says which), and those of its archive as it
  * was at an older commit (bench/archives.sh). They are the calls of closing.h under other names; of plain C nothing is proved.
  *
- * Inputs, answers, refusals and lent memory are those of closing.h, word for word. */
+ * Inputs, answers, refusals and lent memory are those of closing.h, word for word; of the older archive those of its own closing.h, so that
+ * it is given only stores that it built, and plans that it made or that name no reduced table. */
 #ifndef PLAIN_H
 #define PLAIN_H
 

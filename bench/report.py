@@ -11,11 +11,13 @@ import os
 import platform
 import re
 import sys
+from unittest.mock import patch
 
 HERE = os.path.dirname(os.path.abspath(__file__))
 sys.path.insert(0, os.path.join(HERE, '..', 'tools'))
 
-from reference import KINDS, chosen_table, extended, layout, plan, read_pattern, read_site
+import reference
+from reference import KINDS, choices, chosen_table, extended, layout, plan, qualifies, read_pattern, read_site, semi_join
 
 ENGINE, PLAIN, BEFORE, BEST, QUERY, CHECKED = range(6)
 
@@ -105,6 +107,34 @@ def rows_read(site, check, steps):
     return read, searched
 
 
+OO = KINDS.index((1, 1))
+
+
+def choices_of_before(*place):
+    """The open choices of before there was OO, under their numbers of now."""
+    return {choice: rows for choice, rows in choices(*place).items() if choice == 0 or (choice - 1) % len(KINDS) != OO}
+
+
+def plan_of_before(words, check):
+    """What the planner chose before there was OO."""
+    with patch.object(reference, 'choices', choices_of_before):
+        return plan(words, check)
+
+
+def none_by_counts(site, check, kinds):
+    """Whether a table of the check has no rows, or one that qualifies: that is answered before a row is read."""
+    tables = dict(site)
+    pattern = read_pattern(tables, check)
+    named = [tables[predicate] for _, (_, predicate), _ in pattern]
+    return not all(named) or any(qualifies(pattern, i, j, kind) and not semi_join(p, q, kind)
+                                 for i, p in enumerate(named) for j, q in enumerate(named) for kind in kinds)
+
+
+def rows_of_run(site, check, planner=plan, kinds=KINDS):
+    """What rows_read counts, of the planner's own plan."""
+    return (0, 0) if none_by_counts(site, check, kinds) else rows_read(site, check, planner(layout(1000, site), check))
+
+
 # ---- text
 
 def time_text(nanoseconds):
@@ -169,19 +199,31 @@ def plan_table(measured):
     return table(('site', 'check', 'engine', 'plain C', 'engine / C', 'best C', 'engine / best', 'before', 'times faster'), rows)
 
 
+def files_of(line, sites):
+    """The site and the check of a line."""
+    return next((site, dict(checks)[line.check]) for name, site, checks in sites if name == line.site)
+
+
 def run_table(measured, sites):
     rows = []
     for line in (line for line in measured if line.call == 'run'):
-        _, site, checks = next(entry for entry in sites if entry[0] == line.site)
-        check = dict(checks)[line.check]
-        # none by the counts is answered before a row is read
-        read, searched = (0, 0) if line.check == 'none by the counts' else rows_read(site, check, plan(layout(1000, site), check))
+        read, searched = rows_of_run(*files_of(line, sites))
         rows.append((line.site, line.check, line.count, found_text(line.found), '{:,}'.format(read), '{:,}'.format(searched), timed(line, ENGINE),
                      timed(line, PLAIN), cell(line.ratio(PLAIN)), timed(line, BEST), cell(line.ratio(BEST)), timed(line, BEFORE), faster(line),
                      timed(line, QUERY), cell(line.ratio(QUERY)), timed(line, CHECKED), cell(line.ratio(CHECKED), '%.3f')))
     head = ('site', 'check', 'N', 'rows', 'rows of the tables', 'rows read', 'engine', 'plain C', 'engine / C', 'best C', 'engine / best', 'before', 'times faster',
             'SQLite', 'engine / SQLite', 'with quick_check', 'engine / that')
     return table(head, rows)
+
+
+def saved_table(measured, sites):
+    rows = []
+    for line in (line for line in measured if line.call == 'run'):
+        site, check = files_of(line, sites)
+        (read, _), (read_before, _) = rows_of_run(site, check), rows_of_run(site, check, plan_of_before, KINDS[:OO])
+        rows.append((line.site, line.check, found_text(line.found), '{:,}'.format(read), '{:,}'.format(read_before), cell(read / read_before if read_before else None),
+                     timed(line, ENGINE), timed(line, BEFORE), cell(line.ratio(BEFORE))))
+    return table(('site', 'check', 'rows', 'rows of the tables', 'without OO', 'ratio', 'engine', 'before', 'engine / before'), rows)
 
 
 def same_check(measured, line, call):
@@ -278,6 +320,11 @@ def has_gaps(line):
     return line.site.startswith(('named', 'scattered', '24-bit'))
 
 
+def shares_objects(line):
+    """Of a further site: one whose predicates share objects, which OO is for."""
+    return line.site.startswith('watched')
+
+
 def best_bounds(what, measured):
     return bounds(what, [line.ratio(BEST) for line in measured if line.call not in ('build', 'whether')])
 
@@ -286,11 +333,24 @@ def whether_text(everything, measured, laid, counts):
     """The section of the call that only tells whether there is a row."""
     text = ['## Whether', '', 'Beside run and plan of the same check, whose repeats are interleaved with its own. SQLite is asked for one row, in no order.', '']
     text += whether_table(measured) + ['', '## The limits of S-7', '']
-    text += ['Over all sites, those with gaps too: the furthest that was measured, and how many inputs are outside the limit. Where a short loop lies',
+    text += ['Over all sites, those of the sections below too: the furthest that was measured, and how many inputs are outside the limit. Where a short loop lies',
              'moves a call by a tenth and more, so the calls are linked eight ways and the least time of each counts (`bench/archives.sh`); beside',
              'that what the tables above have. Two calls that differ by a thousandth a time does not tell apart: where there are rows whether does all that a',
              'run does but to make them, and which is ahead is told by the instructions of one call (callgrind).', '']
     return text + limits_table(everything, laid, counts)
+
+
+def check_tables(measured, sites):
+    """Plan, run and whether on further sites."""
+    return plan_table(measured) + [''] + run_table(measured, sites) + [''] + whether_table(measured)
+
+
+def saved_text(measured, sites):
+    """The section of the sites whose predicates share objects."""
+    text = ['Further sites: shops where contacts, cameras and locks share doors. The rows of the tables of the planner\'s plan, those of each step times the',
+            'partial solutions before it, one before the first; and of the plan that it made while there were SS, OS and SO alone. Beside them the time of',
+            'the run, and by the archive of before, which is given its own store and its own plan. ' + best_bounds('Engine over best C, plan and run', measured), '']
+    return text + saved_table(measured, sites) + [''] + check_tables(measured, sites)
 
 
 def sizes_table(folder, counts):
@@ -303,7 +363,8 @@ def sizes_table(folder, counts):
 
 def results(folder, commit):
     everything = [Line(text) for text in lines(folder, 'times.txt')]
-    measured, further = [line for line in everything if not has_gaps(line)], [line for line in everything if has_gaps(line)]
+    gapped, sharing = list(filter(has_gaps, everything)), list(filter(shares_objects, everything))
+    measured = [line for line in everything if not has_gaps(line) and not shares_objects(line)]
     sites = inputs(folder)
     code = lines(folder, 'size.txt')[-1].split()
     counts = instructions(folder)
@@ -319,8 +380,8 @@ def results(folder, commit):
     text += [''] + whether_text(everything, measured, least_of(map(Line, lines(folder, 'layouts.txt'))), counts)
     text += ['', '## Reduced tables', ''] + reduced_table(measured) + ['', '## How cost grows with rows', '', 'The exponent of time in rows, over shops of 16 to 1,024 rows.', '']
     text += growth_table(measured) + ['', '## Columns with gaps', '', 'Further sites: the same shops with their terms numbered by first appearance, as `tools/site_text.py`',
-                                      'numbers names, or scattered over the numbers of 16 bits, or of 24, which the archive of before may refuse. ' + best_bounds('Engine over best C, plan and run', further), '']
-    text += plan_table(further) + [''] + run_table(further, sites) + [''] + whether_table(further) + ['', '## Sizes', ''] + sizes_table(folder, counts)
+                                      'numbers names, or scattered over the numbers of 16 bits, or of 24, which the archive of before may refuse. ' + best_bounds('Engine over best C, plan and run', gapped), '']
+    text += check_tables(gapped, sites) + ['', '## What OO saves', ''] + saved_text(sharing, sites) + ['', '## Sizes', ''] + sizes_table(folder, counts)
     text += ['', 'Code of the archive: {:,} bytes.'.format(int(code[0])), '', '## Agreement', '', '. '.join(lines(folder, 'agree.txt')) + '.', '']
     with open(os.path.join(HERE, 'NOTES.md')) as notes:
         text.append(notes.read())

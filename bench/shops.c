@@ -27,7 +27,7 @@ static void add_check(struct workload *workload, const char *name, uint32_t coun
             put_number(check, triple[i][column]);
 }
 
-enum { COVERS = 1, IN = 2, STATE = 3, BATTERY = 4, CLOSED = 40, OPEN = 41, AJAR = 42, LOW = 50, GOOD = 51 };
+enum { COVERS = 1, IN = 2, WATCHES = 2, STATE = 3, BATTERY = 4, LOCKS = 5, CLOSED = 40, OPEN = 41, AJAR = 42, LOW = 50, GOOD = 51 };
 
 enum { FIRST_SENSOR = 1000, FIRST_DOOR = 3000, FIRST_ZONE = 5000 };
 
@@ -102,7 +102,30 @@ static void add_shop_checks(struct workload *w, renaming *of) {
                                     {variable(4), state, open}});
 }
 
+/* Checks that share an object: OO leaves fewer rows than any other kind, none, which the counts tell, or, against the same table, all. */
+static void add_shared_door_checks(struct workload *w) {
+    const uint32_t s = variable(0), door = variable(1), covers = term(COVERS), watches = term(WATCHES), locks = term(LOCKS);
+    add_check(w, "two sensors on one door", 2, (const uint32_t[][3]){{s, covers, door}, {variable(2), watches, door}});
+    add_check(w, "two sensors on one open door", 3,
+              (const uint32_t[][3]){{s, covers, door}, {variable(2), watches, door}, {door, term(STATE), term(OPEN)}});
+    add_check(w, "two sensors, one of low battery", 3,
+              (const uint32_t[][3]){{s, covers, door}, {variable(2), watches, door}, {variable(2), term(BATTERY), term(LOW)}});
+    add_check(w, "three sensors on one door", 3,
+              (const uint32_t[][3]){{s, covers, door}, {variable(2), watches, door}, {variable(3), watches, door}});
+    add_check(w, "none by the counts: covered and locked", 2, (const uint32_t[][3]){{s, covers, door}, {variable(2), locks, door}});
+    add_check(w, "two contacts on one door", 2, (const uint32_t[][3]){{s, covers, door}, {variable(2), covers, door}});
+}
+
 /* ---- sites */
+
+/* The predicates 1, 2 and so on, of which each has so many rows. */
+static void put_declarations(struct file *site, uint32_t predicates, const uint32_t *count) {
+    put_number(site, predicates);
+    for (uint32_t p = 0; p < predicates; p++) {
+        put_number(site, p + 1);
+        put_number(site, count[p]);
+    }
+}
 
 /* A shop of so many rows: three in ten are sensors that cover a door, and as many that sit in a zone; two in ten are doors with their
  * state, and as many sensors with their battery. One door in eight is open, one battery in eight is low. */
@@ -112,13 +135,9 @@ static void make_shop(struct workload *w, const char *name, uint32_t rows, renam
     const uint32_t count[4] = {sensors, sensors, doors, batteries};
     struct file *site = begin_file(&w->site, name, rows);
     w->rows = rows;
+    put_declarations(site, 4, count);
     memset(number_of, 0, sizeof number_of);
     next_number = BATTERY + 1;
-    put_number(site, 4);
-    for (uint32_t p = 0; p < 4; p++) {
-        put_number(site, COVERS + p);
-        put_number(site, count[p]);
-    }
     for (uint32_t p = 0; p < 4; p++) {
         for (uint32_t r = 0; r < count[p]; r++) {
             const uint32_t object[4] = {FIRST_DOOR + r * doors / sensors, FIRST_ZONE + r % zones, r % 8 == 5 ? OPEN : CLOSED, r % 8 == 3 ? LOW : GOOD};
@@ -130,6 +149,28 @@ static void make_shop(struct workload *w, const char *name, uint32_t rows, renam
             put_row(site, row[r]);
     }
     add_shop_checks(w, of);
+}
+
+/* A shop of so many rows whose predicates share doors: one row in five is a door with its state. Doors go in fours: two contacts cover each of
+ * the first three, two cameras watch each of the last two, two locks hold each last one; so a third of the contacts and half of the cameras have
+ * a door in common, contacts and locks none. The other rows are batteries, a quarter of them of contacts, the rest of cameras. One door in
+ * five is open, one battery in five is low. */
+static void make_watched_shop(struct workload *w, const char *name, uint32_t rows) {
+    const uint32_t doors = rows / 5, contacts = 2 * (doors - doors / 4), cameras = 2 * (doors / 2), locks = 2 * (doors / 4);
+    const uint32_t batteries = rows - contacts - cameras - doors - locks, first_camera = FIRST_SENSOR + contacts;
+    const uint32_t count[5] = {contacts, cameras, doors, batteries, locks};
+    const uint32_t first[5] = {FIRST_SENSOR, first_camera, FIRST_DOOR, first_camera - batteries / 4, first_camera + cameras};
+    struct file *site = begin_file(&w->site, name, rows);
+    w->rows = rows;
+    put_declarations(site, 5, count);
+    for (uint32_t p = 0; p < 5; p++)
+        for (uint32_t r = 0; r < count[p]; r++) {
+            const uint32_t covered = r / 6 * 4 + r / 2 % 3, watched = r / 4 * 4 + 2 + r / 2 % 2, locked = r / 2 * 4 + 3;
+            const uint32_t object[5] = {FIRST_DOOR + covered, FIRST_DOOR + watched, r % 5 == 2 ? OPEN : CLOSED, r % 5 == 3 ? LOW : GOOD,
+                                        FIRST_DOOR + locked};
+            put_row(site, (struct row){first[p] + r, object[p]});
+        }
+    add_shared_door_checks(w);
 }
 
 /* 01's worked shop, and its check. */
@@ -144,13 +185,12 @@ static void make_worked(struct workload *w) {
 
 /* Tables of so many predicates and rows each, whose subjects and objects have no partner in another table, or partners everywhere. */
 static void make_tables(struct workload *w, const char *name, uint32_t predicates, uint32_t each, int partners) {
+    uint32_t count[16];
     struct file *site = begin_file(&w->site, name, predicates);
     w->rows = predicates * each;
-    put_number(site, predicates);
-    for (uint32_t p = 0; p < predicates; p++) {
-        put_number(site, p + 1);
-        put_number(site, each);
-    }
+    for (uint32_t p = 0; p < predicates; p++)
+        count[p] = each;
+    put_declarations(site, predicates, count);
     for (uint32_t p = 0; p < predicates; p++)
         for (uint32_t r = 0; r < each; r++)
             put_row(site, partners ? (struct row){r + 1, each - r} : (struct row){100 + p * each + r, 10000 + p * each + r});
@@ -191,6 +231,10 @@ void make_workload(size_t k, struct workload *w) {
     case 12:
     case 13:
         make_shop(w, "24-bit shop of %u rows", k == 12 ? 256 : 1024, widely_scattered);
+        break;
+    case 14:
+    case 15:
+        make_watched_shop(w, "watched shop of %u rows", k == 14 ? 256 : 1024);
         break;
     default:
         make_shop(w, "shop of %u rows", 4u << (2 * k), as_numbered);

@@ -151,8 +151,9 @@ static bool is_answered(const struct asked *asked, uint32_t kept, uint32_t store
     return asked->entry[1] == 0 || (stored_kept == kept && are_among(asked->stored, kept, asked->rows, asked->n));
 }
 
-/* The partners have every term between their lowest and highest. */
-static bool is_answered_between(const uint32_t *store, const struct asked *asked, struct column of) {
+/* The partners have every term between their lowest and highest: where no term of the own column is outside, all rows are left. */
+static bool is_answered_between(const uint32_t *store, const struct asked *asked, struct column own, struct column of) {
+    if (of.low <= own.low && own.high <= of.high) return asked->entry[0] == asked->n;
     if (asked->own == 0) return holds_between(store, asked->entry, asked->rows, asked->n, of);
     return is_answered(asked, count_between(rows_asked(asked), of.low, of.high), count_between(stored_asked(asked), of.low, of.high));
 }
@@ -179,10 +180,12 @@ static bool is_answered_held(const struct asked *asked, const struct window *win
 }
 
 /* The semi-joins against one column that are open. */
-static bool open_hold(const uint32_t *store, size_t count, size_t q, size_t other, struct column of, uint32_t open, struct window *window) {
+static bool open_hold(const uint32_t *store, size_t count, const struct column *columns, size_t partner, uint32_t open, struct window *window) {
     enum { FEW = 8 };
+    const size_t q = partner / 2, other = partner % 2;
     const uint32_t *table = store + 3 + 3 * q;
     const struct words partners = {store + table[2] + other, table[1]};
+    struct column of = columns[partner];
     /* only so many rows can have every term between */
     if (!of.gapless && partners.n > FEW && of.high - of.low < partners.n)
         of.gapless = hold(window, partners.first, partners.n, of.low, of.high) == of.high - of.low + 1;
@@ -193,7 +196,7 @@ static bool open_hold(const uint32_t *store, size_t count, size_t q, size_t othe
     for (size_t at = 0; at < 2 * count; at++) {
         if ((open >> at & 1) == 0) continue;
         const struct asked asked = asked_of(store, count, at, q, other);
-        const bool holds = of.gapless         ? is_answered_between(store, &asked, of)
+        const bool holds = of.gapless         ? is_answered_between(store, &asked, columns[at], of)
                            : partners.n > FEW ? is_answered_held(&asked, window)
                                               : is_answered_few(&asked, partners);
         if (!holds) return false;
@@ -201,8 +204,12 @@ static bool open_hold(const uint32_t *store, size_t count, size_t q, size_t othe
     return true;
 }
 
-/* The entries of all semi-joins, by the lowest and highest terms; what they leave open is marked at the partners' column. */
-static bool entries_hold(const uint32_t *store, size_t count, const struct column *columns, size_t here, size_t used, uint32_t *open) {
+/* What the lowest and highest terms leave open, marked at the partners' column by a bit for each own column: where no row is said to be left,
+ * and where some are. */
+struct marks { uint32_t empty[2 * MOST_PREDICATES], open[2 * MOST_PREDICATES]; };
+
+/* The entries of all semi-joins, by the lowest and highest terms. */
+static bool entries_hold(const uint32_t *store, size_t count, const struct column *columns, size_t here, size_t used, struct marks *marks) {
     const uint32_t *entry = store + 3 + 3 * count, t = store[1];
     for (size_t p = 0; p < count; p++) {
         const uint32_t rows = store[3 + 3 * p + 1];
@@ -210,30 +217,49 @@ static bool entries_hold(const uint32_t *store, size_t count, const struct colum
             for (size_t k = 0; k < KINDS; k++, entry += 2) {
                 const size_t own = 2 * p + own_column[k], other = 2 * q + partner_column[k];
                 const struct column a = columns[own], b = columns[other];
+                if (a.high < b.low || b.high < a.low) {
+                    if ((entry[0] | entry[1]) != 0) return false;
+                    continue;
+                }
                 if (entry[0] > rows || entry[1] != (is_stored(t, entry[0], rows) ? here : 0)) return false;
                 if (entry[1] != 0) here += 2 * entry[0];
-                if (a.high < b.low || b.high < a.low) {
-                    if (entry[0] != 0) return false;
-                } else if (own == other || (b.gapless && b.low <= a.low && a.high <= b.high)) {
+                if (own == other || (b.gapless && b.low <= a.low && a.high <= b.high)) {
                     if (entry[0] != rows) return false;
-                } else
-                    open[other] |= 1u << own;
+                } else if (entry[0] != 0)
+                    marks->open[other] |= 1u << own;
+                else
+                    marks->empty[other] |= 1u << own;
             }
     }
     return here == used;
 }
 
+/* 2 for a column whose terms need not be held, 1 for one whose terms are held anyway, else 0. */
+static unsigned ease_of(const struct column *columns, const struct marks *marks, size_t at) { return columns[at].gapless ? 2 : marks->open[at] != 0; }
+
+/* Two columns without a common term leave no row of each other: it is said both ways, and asked one way, against the easier one. */
+static bool share_empty(const struct column *columns, size_t count, struct marks *marks) {
+    for (size_t a = 0; a < 2 * count; a++)
+        for (size_t b = 0; marks->empty[a] != 0 && b < 2 * count; b++) {
+            if ((marks->empty[a] >> b & 1) == 0) continue;
+            if ((marks->empty[b] >> a & 1) == 0) return false;
+            const size_t easier = ease_of(columns, marks, a) < ease_of(columns, marks, b) ? b : a;
+            if (a < b) marks->open[easier] |= 1u << (a + b - easier);
+        }
+    return true;
+}
+
 static bool site_holds(const uint32_t *store, size_t count, size_t here, size_t used) {
     struct column columns[2 * MOST_PREDICATES];
-    uint32_t open[2 * MOST_PREDICATES] = {0};
+    struct marks marks = {{0}, {0}};
     struct window window;
     window.held = store;
     window.n = window.cleared = window.base = window.size = 0;
     window.hashed = false;
     for (size_t i = 0; i < count; i++)
         if (!read_columns(store + store[3 + 3 * i + 2], store[3 + 3 * i + 1], columns + 2 * i)) return false;
-    if (!entries_hold(store, count, columns, here, used, open)) return false;
+    if (!entries_hold(store, count, columns, here, used, &marks) || !share_empty(columns, count, &marks)) return false;
     for (size_t i = 0; i < 2 * count; i++)
-        if (open[i] != 0 && !open_hold(store, count, i / 2, i % 2, columns[i], open[i], &window)) return false;
+        if (marks.open[i] != 0 && !open_hold(store, count, columns, i, marks.open[i], &window)) return false;
     return true;
 }

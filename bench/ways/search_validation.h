@@ -66,7 +66,7 @@ static void column_ranges(const uint32_t *rows, size_t n, struct range *ranges) 
     ranges[1] = (struct range){lowest, highest, false};
 }
 
-/* What all semi-joins are checked by: the range of each column, and the objects that some table's subjects reach, in ascending order. */
+/* What all semi-joins are checked by: the range of each column, and the objects that another column reaches, in ascending order. */
 struct sorted { struct range ranges[2 * MOST_PREDICATES]; uint32_t objects[MOST_ROWS]; };
 
 static void collect_statistics(const uint32_t *store, size_t count, struct sorted *sorted) {
@@ -75,17 +75,26 @@ static void collect_statistics(const uint32_t *store, size_t count, struct sorte
 
 static bool columns_apart(const struct range *a, const struct range *b) { return a->highest < b->lowest || b->highest < a->lowest; }
 
-static bool is_reached(const struct sorted *sorted, size_t count, const struct range *objects) {
-    for (size_t p = 0; p < count; p++)
-        if (!columns_apart(&sorted->ranges[2 * p], objects)) return true;
+/* Whether a column of some table, other than the one whose range this is, is not apart from it. */
+static bool is_reached(const struct sorted *sorted, size_t count, size_t column, const struct range *range) {
+    for (size_t p = 0; p < count; p++) {
+        const struct range *a = &sorted->ranges[2 * p + column];
+        if (a != range && !columns_apart(a, range)) return true;
+    }
     return false;
+}
+
+/* By subjects, which OS and SO compare with objects, or by other objects, which OO does. */
+static bool objects_reached(const struct sorted *sorted, size_t count, size_t table) {
+    const struct range *objects = &sorted->ranges[2 * table + 1];
+    return is_reached(sorted, count, 0, objects) || is_reached(sorted, count, 1, objects);
 }
 
 static void copy_objects(const uint32_t *store, size_t count, struct sorted *sorted) {
     for (size_t i = 0; i < count; i++) {
         const uint32_t *entry = store + 3 + 3 * i;
         uint32_t *to = sorted->objects + (entry[2] - rows_start(count)) / 2;
-        if (!is_reached(sorted, count, &sorted->ranges[2 * i + 1])) continue;
+        if (!objects_reached(sorted, count, i)) continue;
         for (size_t r = 0; r < entry[1]; r++) to[r] = store[entry[2] + 2 * r + 1];
         sort_rows(to, 1, entry[1]);
         sorted->ranges[2 * i + 1].whole = is_gapless((struct column){to, 1, entry[1]});
@@ -153,10 +162,12 @@ static bool compare_partnered(const uint32_t *rows, size_t m, size_t own, struct
 static uint32_t count_partnered(struct column own, struct column partners, const uint32_t *values, const struct range *a, const struct range *b) {
     struct filter filter;
     if (b->whole && b->lowest <= a->lowest && a->highest <= b->highest) return (uint32_t)own.n;
-    if (a == b) return (uint32_t)own.n; /* each row is its own partner */
     insert_values(&filter, values, partners.n, b);
     return count_common(own, partners, &filter);
 }
+
+/* Where the rows end that are stored of none, `here`, if their entry has `counted` for their count and no start; else 0. */
+static size_t not_stored_end(const uint32_t *entry, size_t counted, size_t here) { return entry[0] == counted && entry[1] == 0 ? here : 0; }
 
 /* Where the stored rows of the semi-join of kind k of p against q end, if they begin at `here`; 0 where they or its entry are wrong. */
 static size_t semi_join_end(const uint32_t *store, const struct sorted *sorted, size_t count, size_t p, size_t q, size_t k, size_t here,
@@ -164,7 +175,8 @@ static size_t semi_join_end(const uint32_t *store, const struct sorted *sorted, 
     const uint32_t *entry = store + 3 + 3 * count + 2 * ((p * count + q) * KINDS + k), *rows = store + store[3 + 3 * p + 2];
     const size_t m = store[3 + 3 * p + 1], end = here + 2 * (size_t)entry[0], own = own_column[k], other = partner_column[k];
     const struct range *a = &sorted->ranges[2 * p + own], *b = &sorted->ranges[2 * q + other];
-    if (columns_apart(a, b)) return entry[0] == 0 && entry[1] == 0 ? here : 0;
+    if (a == b) return not_stored_end(entry, m, here); /* a column against itself leaves all rows, which are never stored */
+    if (columns_apart(a, b)) return not_stored_end(entry, 0, here);
     if (entry[0] > m) return 0;
     const struct column partners = column_of(store, sorted->objects, count, q, other);
     const uint32_t *values = store + store[3 + 3 * q + 2] + other;
@@ -175,7 +187,7 @@ static size_t semi_join_end(const uint32_t *store, const struct sorted *sorted, 
         insert_values(&filter, values, partners.n, b);
         return compare_partnered(rows, m, own, partners, &filter, store + here, store + end) ? end : 0;
     }
-    return entry[1] == 0 && count_partnered(column_of(store, sorted->objects, count, p, own), partners, values, a, b) == entry[0] ? here : 0;
+    return not_stored_end(entry, count_partnered(column_of(store, sorted->objects, count, p, own), partners, values, a, b), here);
 }
 
 /* No semi-join of p against q leaves a row, by the ranges, and the entries say so. */

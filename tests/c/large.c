@@ -85,7 +85,7 @@ int main(void) {
         for (int damage = 0; damage <= DAMAGES; damage++) {
             const size_t entries = 3 + 3 * predicates + 8 * predicates * predicates, at = random_below((uint32_t)(damage % 3 == 0 ? entries : used));
             const uint32_t kept = store[at];
-            if (damage > 0) store[at] = damage % 2 == 0 ? kept + 1 : random_below(17000000);
+            if (damage > 0) store[at] = damage % 2 == 0 ? kept + 1 : damage == 3 ? 0 : random_below(17000000);
             const uint32_t p = 1 + random_below(predicates), q = 1 + random_below(predicates);
             const int shares_object = damage % 2;
             const uint8_t check[CHECK_BYTES] = {2, 1, (uint8_t)(2 * p), 3, shares_object ? 5 : 3, (uint8_t)(2 * q), shares_object ? 3 : 5};

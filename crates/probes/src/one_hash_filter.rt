@@ -1,8 +1,8 @@
 ghost use mathlib.Core.Path.{_≡_};
 ghost use Prim.Native.Nat.{_<_, _≤_, _+_, _*_};
-ghost use lib.ListN.{length};
+ghost use lib.ListN.{length, replicate};
 ghost use Rattle.statistics.specs.Ranges.{hasValue};
-ghost use Rattle.probes.specs.OneHashFilter.{slotCount, mayContain, ContainsAll};
+ghost use Rattle.probes.specs.OneHashFilter.{slotCount, mayContain, ContainsAll, SetByValues};
 
 // Whether n values of the column with the range at a place are filtered: few are not, which would cost more than it saves, nor those
 // without gaps, of which a value is told by where it would stand.
@@ -12,10 +12,11 @@ pub fn should_filter(ranges: &[u32; 96], place: usize, n: usize) -> bool
     16 <= n && ranges[place + 2] == 0
 }
 
-// Inserts the values that the n rows at `start` have at a column.
+// Inserts the values that the n rows at `start` have at a column into slots of which none is set.
 pub fn insert_values(w: &[u32], start: usize, n: usize, column: usize, slots: &mut [u8; 1024])
-    requires { ⌜ (start + 2 * n ≤ length (now w)) × (column < 2) × (length (now slots) ≡ slotCount) ⌝ }
+    requires { ⌜ (start + 2 * n ≤ length (now w)) × (column < 2) × (now slots ≡ replicate slotCount 0) ⌝ }
     ensures { λ _. ⌜ ContainsAll (hasValue (now (w .entry)) start n column) (now (slots .exit)) × (length (now (slots .exit)) ≡ slotCount) ⌝ }
+    ensures { λ _. ⌜ SetByValues (hasValue (now (w .entry)) start n column) (now (slots .exit)) ⌝ }
 {
     for i in 0..n {
         let slot = w[start + 2 * i + column] % 1024;

@@ -22,7 +22,7 @@ use Rattle.tables.proofs.Reduced.{entries-more, stored-words-more, take-more, l
 use Rattle.model.proofs.Setting.{part-block}
 use Rattle.tables.proofs.Images.{entries-inside}
 use Rattle.semi_join_validation.proofs.Join.{Held, held, holds}
-use Rattle.semi_join_validation.specs.Joins.{joinHolds, joinsHold}
+use Rattle.semi_join_validation.specs.Joins.{joinHolds, Joined, joinsHold}
 use Rattle.site_validation.specs.declared.entries.Extent.{Extent}
 use Rattle.site_validation.specs.declared.entries.Extent.the-variants.{Ends, Invalid}
 
@@ -59,14 +59,7 @@ module _ (t count : ℕ) (words : List ℕ) (used : ℕ) where
   abbrev first : ℕ
   first = storedStart (siteIn count words)
 
-  -- the first x hold, and their stored rows end at `here`
-  pub record Joined (here x : ℕ) : Type 0 where
-    pub place : here ≡ first + length (storedWords t (take x all))
-    pub room : here ≤ used
-    pub entries : take (2 * x) (drop (vpEntryAt count) words) ≡ semiJoinEntries t first (take x all)
-    pub rows : take (length (storedWords t (take x all))) (drop first words) ≡ storedWords t (take x all)
-
-  pub joined-none : first ≤ used → Joined first 0
+  pub joined-none : first ≤ used → Joined t count words used first 0
   unfolding semiJoinEntries
   joined-none h = record { place = omega arith; room = h; entries = refl; rows = refl }
 
@@ -91,7 +84,7 @@ module _ (t count : ℕ) (words : List ℕ) (used : ℕ) where
         let m = length-take-le (used - first) (drop first words) (omega arith) in
         omega (arith, ap length (a .rows))
 
-    module _ {here x : ℕ} (j : Joined here x) where
+    module _ {here x : ℕ} (j : Joined t count words used here x) where
       module _ (h : x < count * (count * kindCount)) where
         abbrev next : Reduced
         next = reducedAt (siteIn count words) x
@@ -107,7 +100,7 @@ module _ (t count : ℕ) (words : List ℕ) (used : ℕ) where
         answer = cond (joinHolds t words next entry here used) (Ends (here + 2 * length (storedRows t next))) Invalid
 
         -- if this one holds, the first x + 1 do
-        pub joined-more : {r : Extent} {end : ℕ} → r ≡ answer → r ≡ Ends end → Joined end (x + 1)
+        pub joined-more : {r : Extent} {end : ℕ} → r ≡ answer → r ≡ Ends end → Joined t count words used end (x + 1)
         joined-more {end = end} a e =
             let (held-here, same) = ends-at _ _ end (sym a ∙ e) in
             let one = held t words next entry here used held-here in

@@ -2,5 +2,5 @@
 pub mod Join
 pub mod Joined
 pub mod Turns
-pub mod EmptyPairs
+pub mod ToldByRanges
 pub mod IndexedOperands

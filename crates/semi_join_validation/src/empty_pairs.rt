@@ -26,21 +26,11 @@ fn kinds_apart(ranges: &[u32; 96], p: usize, q: usize) -> bool
     true
 }
 
-// Whether, by the ranges, no semi-join of p against q leaves a row, and the entries say so: asked once for the kinds, at the first of them.
-pub fn is_empty_pair(
-    w: &[u32],
-    ranges: &[u32; 96],
-    count: usize,
-    p: usize,
-    q: usize,
-    k: usize,
-) -> bool
+// Whether, by the ranges, no semi-join of p against q leaves a row, and the entries say so: asked once for all kinds.
+pub fn is_empty_pair(w: &[u32], ranges: &[u32; 96], count: usize, p: usize, q: usize) -> bool
     requires { ⌜ ImageOf count (now w) × (p < count) × (q < count) ⌝ }
-    ensures { λ r. ⌜ r ≡ emptyPair count (now (w .entry)) (now (ranges .entry)) p q k ⌝ }
+    ensures { λ r. ⌜ r ≡ emptyPair count (now (w .entry)) (now (ranges .entry)) p q ⌝ }
 {
-    if k != 0 {
-        return false;
-    }
     if !kinds_apart(ranges, p, q) {
         return false;
     }

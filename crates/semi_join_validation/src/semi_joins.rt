@@ -10,9 +10,10 @@ ghost use Rattle.tables.specs.SiteWords.{siteIn, ImageOf, reducedAt};
 ghost use Rattle.probes.specs.Probed.{Probed};
 ghost use Rattle.statistics.specs.IndexedTables.{IndexedTables};
 ghost use Rattle.statistics.specs.Ranges.{ColumnRange};
-ghost use Rattle.semi_join_validation.specs.Joins.{SemiJoinWords, storedHolds, notStoredHolds, joinHolds, joinsHold};
+ghost use Rattle.semi_join_validation.specs.Joins.{SemiJoinWords, storedHolds, notStoredHolds, joinHolds, Joined, joinsHold, HoldUpTo};
 ghost use Rattle.site_validation.specs.declared.entries.Extent.the-variants.{Ends, Invalid};
 use crate::empty_pairs::is_empty_pair;
+use crate::told_kinds::tell_kinds;
 use probes::counting::count_partnered;
 use site_validation::entries::Extent;
 use statistics::objects::copy_objects;
@@ -106,6 +107,49 @@ fn semi_join_end(
     not_stored_end(left, start, counted, here)
 }
 
+// Where the stored rows of the semi-joins of p against q end, if they and their entries are as they should be and the rows begin at `here`.
+fn pair_end(
+    t: usize,
+    w: &[u32],
+    objects: &[u32],
+    ranges: &[u32; 96],
+    first: usize,
+    count: usize,
+    p: usize,
+    q: usize,
+    here: usize,
+    used: usize,
+) -> Extent
+    requires { ⌜ ImageOf count (now w) × (p < count) × (q < count) × (t ≤ mostThreshold) × (used ≤ length (now w)) ⌝ }
+    requires { ⌜ IndexedTables count (now w) (now objects) (now ranges) × (first ≡ rowsStart count) × Joined t count (now w) used here (semiJoinPlace count p q 0) ⌝ }
+    ensures { λ r. ⌜ HoldUpTo t count (now (w .entry)) used (semiJoinPlace count p q kindCount) r ⌝ }
+{
+    let mut told = [0u8; KINDS];
+    tell_kinds(w, ranges, count, p, q, &mut told);
+    let mut end = here;
+    for k in 0..KINDS {
+        if told[k] != 1 {
+            let Extent::Ends(next) = semi_join_end(
+                t,
+                w,
+                objects,
+                ranges,
+                first,
+                count,
+                p,
+                q,
+                k,
+                end,
+                used,
+            ) else {
+                return Extent::Invalid;
+            };
+            end = next;
+        }
+    }
+    Extent::Ends(end)
+}
+
 // Whether the entries and the stored rows of all semi-joins are as they should be, and the last rows end at `used`.
 fn each_semi_join_holds(
     t: usize,
@@ -124,35 +168,16 @@ fn each_semi_join_holds(
     let mut here = first;
     let mut p: usize = 0;
     let mut q: usize = 0;
-    let mut k: usize = 0;
     while p < count {
-        if is_empty_pair(w, ranges, count, p, q, k) {
-            // Each kind holds.
-            k = KINDS - 1;
-        } else {
-            let Extent::Ends(next) = semi_join_end(
-                t,
-                w,
-                objects,
-                ranges,
-                rows,
-                count,
-                p,
-                q,
-                k,
-                here,
-                used,
-            ) else {
+        if !is_empty_pair(w, ranges, count, p, q) {
+            let Extent::Ends(next) = pair_end(t, w, objects, ranges, rows, count, p, q, here, used)
+            else {
                 return false;
             };
             here = next;
         }
-        // For each p, each q, each k.
-        k += 1;
-        if k == KINDS {
-            k = 0;
-            q += 1;
-        }
+        // For each p, each q.
+        q += 1;
         if q == count {
             q = 0;
             p += 1;

@@ -7,7 +7,7 @@ ghost use Rattle.model.specs.Store.{rowsIn, tableWords};
 ghost use Rattle.tables.specs.LeftRows.{leftOf};
 ghost use Rattle.searching.specs.Search.{SortedRun, hasWord};
 ghost use Rattle.statistics.specs.Ranges.{hasValue, ColumnRange};
-ghost use Rattle.probes.specs.OneHashFilter.{ContainsAll};
+ghost use Rattle.probes.specs.OneHashFilter.{ContainsAll, ToldBy};
 ghost use Rattle.probes.specs.Probed.{Probed};
 ghost use Rattle.stored_rows.specs.StoredRows.{standsNext};
 use crate::between::compare_between;
@@ -31,18 +31,21 @@ fn stands_next(w: &[u32], next: usize, end: usize, row: usize) -> bool
     w[next + 1] == w[row + 1]
 }
 
-// Whether the k rows at `at` are those that are left, in their order: each row's partner is searched.
+// Whether the k rows at `at` are those that are left, in their order: each row's partner is looked for, by the filter and the range of the partners'
+// values, then by search.
 fn compare_searched(
     w: &[u32],
     objects: &[u32],
     first: usize,
     o: Operands,
     slots: &[u8],
+    lowest: u32,
+    highest: u32,
     at: usize,
     k: usize,
 ) -> bool
     requires { ⌜ Probed (now w) (now objects) first o × (at + 2 * k ≤ length (now w)) ⌝ }
-    requires { ⌜ ContainsAll (hasValue (now w) (o .against) (o .partners) (o .other)) (now slots) ⌝ }
+    requires { ⌜ ToldBy (hasValue (now w) (o .against) (o .partners) (o .other)) (now slots) lowest highest ⌝ }
     ensures { λ r. ⌜ r ≡ sameWords (take (2 * k) (drop at (now (w .entry)))) (tableWords (leftOf (now (w .entry)) o)) ⌝ }
 {
     let p = o.start;
@@ -56,7 +59,18 @@ fn compare_searched(
     for i in 0..m {
         let row = p + 2 * i;
         let value = w[row + own];
-        if has_partner(w, objects, first, slots, q, n, other, value) {
+        if has_partner(
+            w,
+            objects,
+            first,
+            slots,
+            lowest,
+            highest,
+            q,
+            n,
+            other,
+            value,
+        ) {
             if !stands_next(w, next, end, row) {
                 return false;
             }
@@ -109,15 +123,17 @@ fn compare_filtered(
     first: usize,
     o: Operands,
     slots: &[u8],
+    lowest: u32,
+    highest: u32,
     at: usize,
     k: usize,
 ) -> bool
     requires { ⌜ Probed (now w) (now objects) first o × (at + 2 * k ≤ length (now w)) ⌝ }
-    requires { ⌜ ContainsAll (hasValue (now w) (o .against) (o .partners) (o .other)) (now slots) ⌝ }
+    requires { ⌜ ToldBy (hasValue (now w) (o .against) (o .partners) (o .other)) (now slots) lowest highest ⌝ }
     ensures { λ r. ⌜ r ≡ sameWords (take (2 * k) (drop at (now (w .entry)))) (tableWords (leftOf (now (w .entry)) o)) ⌝ }
 {
     if o.own != 0 {
-        return compare_searched(w, objects, first, o, slots, at, k);
+        return compare_searched(w, objects, first, o, slots, lowest, highest, at, k);
     }
     if o.other == 0 {
         return compare_walked(
@@ -149,7 +165,7 @@ fn compare_filtered(
 }
 
 // The same, by the range of the partners' column, which stands at `place`: where each number of it is a value and the own column is the subject,
-// no partner is looked for; else with a filter of the partners' values or without.
+// no partner is looked for; else with a filter of the partners' values or without, and with the range.
 pub fn compare_partnered(
     w: &[u32],
     objects: &[u32],
@@ -164,16 +180,16 @@ pub fn compare_partnered(
     requires { ⌜ (place + 3 ≤ 96) × ColumnRange (now w) (o .against) (o .partners) (o .other) (now ranges) place ⌝ }
     ensures { λ r. ⌜ r ≡ sameWords (take (2 * k) (drop at (now (w .entry)))) (tableWords (leftOf (now (w .entry)) o)) ⌝ }
 {
+    let lowest = ranges[place];
+    let highest = ranges[place + 1];
     if o.own == 0 && ranges[place + 2] == 1 {
-        let lowest = ranges[place];
-        let highest = ranges[place + 1];
         return compare_between(w, o.start, o.rows, lowest, highest, at, k);
     }
     if !should_filter(ranges, place, o.partners) {
         // Fewer slots than remainders: no filter.
-        return compare_filtered(w, objects, first, o, &[0u8; 1], at, k);
+        return compare_filtered(w, objects, first, o, &[0u8; 1], lowest, highest, at, k);
     }
     let mut slots = [0u8; 1024];
     insert_values(w, o.against, o.partners, o.other, &mut slots);
-    compare_filtered(w, objects, first, o, &slots, at, k)
+    compare_filtered(w, objects, first, o, &slots, lowest, highest, at, k)
 }

@@ -3,7 +3,7 @@ use Prim.Native.Nat.{_-_}
 use native.Mathlib.Omega.{arith}
 use mathlib.Core.Path.{refl, sym, _∙_}
 use borrow.Author.Needs.{needs}
-use borrow.Author.Tests.{eq-eqb, ne-eqb, not-true, not-false}
+use borrow.Author.Tests.{not-true, not-false}
 use Rattle.model.specs.Tables.{kindCount}
 use Rattle.tables.proofs.Images.{few-predicates, entries-inside}
 use Rattle.tables.proofs.Entries.{place-below}
@@ -11,25 +11,19 @@ use Rattle.semi_join_validation.specs.Joins.{emptyPair}
 use Rattle.semi_join_validation.proofs.empty_pairs.is_empty_pair.Statement.{statement}
 use Rattle.semi_join_validation.proofs.empty_pairs.is_empty_pair.Tie as tie
 
-returns : tie.Need-returns
-unfolding emptyPair
-returns c = rw (ne-eqb _ 0 (c .if1 .taken)) refl
-
 kinds-apart-requires : tie.Need-kinds-apart-requires
 kinds-apart-requires c κs =
-    let pre = c .before .before .pre in
+    let pre = c .before .pre in
     let few = few-predicates (pre .0) in
     (omega (arith, pre .1), omega (arith, pre .2))
 
-returns-2 : tie.Need-returns-2
+returns : tie.Need-returns
 unfolding emptyPair
-returns-2 c =
-    let first = c .before .before in
-    rw (eq-eqb _ 0 (first .if1 .left), sym (c .before .kinds-apart .ensures) ∙ not-true _ (c .if2 .taken)) refl
+returns c = rw (sym (c .before .kinds-apart .ensures) ∙ not-true _ (c .if1 .taken)) refl
 
 semi-join-entry-at-requires : tie.Need-semi-join-entry-at-requires
 semi-join-entry-at-requires c κs =
-    let pre = c .before .before .before .before .pre in
+    let pre = c .before .before .before .pre in
     (few-predicates (pre .0), pre .1, pre .2, omega arith)
 
 mul-all-at-most : tie.Need-mul-all-at-most
@@ -38,25 +32,23 @@ mul-all-at-most c = search needs
 -- the entry of the last kind stands inside
 all-at-most-requires : tie.Need-all-at-most-requires
 all-at-most-requires c κs =
-    let s = c .before .before .before .before .before in
+    let s = c .before .before .before .before in
     omega (arith, c .semi-join-entry-at .ensures, place-below (s .args .p) (s .args .q) (kindCount - 1) (s .pre .1) (s .pre .2) (omega arith), entries-inside (s .pre .0))
 
-returns-3 : tie.Need-returns-3
+returns-2 : tie.Need-returns-2
 unfolding emptyPair
-returns-3 c =
+returns-2 c =
     let entry = c .before in
     let test = entry .before in
-    let first = test .before .before in
-    rw (eq-eqb _ 0 (first .if1 .left), sym (test .before .kinds-apart .ensures) ∙ not-false _ (test .if2 .left), sym (entry .semi-join-entry-at .ensures)) (c .all-at-most .ensures)
+    rw (sym (test .before .kinds-apart .ensures) ∙ not-false _ (test .if1 .left), sym (entry .semi-join-entry-at .ensures)) (c .all-at-most .ensures)
 
 pub is-empty-pair-spec : {M : Type 1} → statement M
 is-empty-pair-spec =
     tie.close
     (tie.spec
-    returns
     kinds-apart-requires
-    returns-2
+    returns
     semi-join-entry-at-requires
     mul-all-at-most
     all-at-most-requires
-    returns-3)
+    returns-2)

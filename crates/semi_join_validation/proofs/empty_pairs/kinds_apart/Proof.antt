@@ -9,7 +9,7 @@ use Rattle.model.specs.Tables.{kindCount, kindAt}
 use Rattle.tables.specs.Columns.{columnNumber}
 use Rattle.model.proofs.Booleans.{not-both, to-false}
 use Rattle.statistics.proofs.ComparedColumns.{number-of}
-use Rattle.semi_join_validation.proofs.EmptyPairs.{kindApart, kinds-apart, kind-apart}
+use Rattle.semi_join_validation.proofs.ToldByRanges.{kindApart, kinds-apart, kind-apart}
 use Rattle.semi_join_validation.proofs.empty_pairs.kinds_apart.Statement.{statement}
 use Rattle.semi_join_validation.proofs.empty_pairs.kinds_apart.Tie as tie
 

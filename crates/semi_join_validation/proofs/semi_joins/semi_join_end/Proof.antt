@@ -19,7 +19,7 @@ use Rattle.statistics.specs.IndexedTables.{SearchableBy}
 use Rattle.statistics.specs.Ranges.{rangeAt, ColumnRange, apart}
 use Rattle.semi_join_validation.specs.Joins.{notStoredHolds}
 use Rattle.site_validation.specs.declared.entries.Extent.the-variants.{Ends, Invalid}
-use Rattle.semi_join_validation.proofs.EmptyPairs.{apart-none, none-stored}
+use Rattle.semi_join_validation.proofs.ToldByRanges.{apart-none, none-stored}
 use Rattle.semi_join_validation.proofs.IndexedOperands.{rows-searchable, own-range, partner-range, rows-by-column, partners-by-column, itself-left}
 use Rattle.semi_join_validation.proofs.Join.{end, stored-same, ends-wrong, ends-stored, ends-counted}
 use Rattle.semi_join_validation.proofs.semi_joins.semi_join_end.Statement.{statement}

@@ -30,7 +30,7 @@ compare-walked-requires c κs =
     let pre = c .before .before .before .before .before .before .before .pre in
     let o = pre .0 .0 in
     let subjects = o .partners .table .subjects in
-    ((o .rows .subjects, pre .0 .1), (subjects, contains-same (same-answers (same-subjects _ _ _ (subjects .inside))) (rw (c .if2 .taken) at (pre .1))))
+    ((o .rows .subjects, pre .0 .1), (subjects, contains-same (same-answers (same-subjects _ _ _ (subjects .inside))) (rw (c .if2 .taken) at (pre .1 .contained))))
 
 returns-2 : tie.Need-returns-2
 unfolding leftRows
@@ -49,7 +49,7 @@ compare-walked-requires-2 c κs =
     let o = s .pre .0 .0 in
     let object : s .args .o .other ≡ 1 = omega (arith, o .partners .small, c .before .if2 .left) in
     let sorted = o .partners .sorted object in
-    ((o .rows .subjects, s .pre .0 .1), (objects-run (o .partners .table) sorted, contains-same (same-answers (sorted .same-objects)) (rw object at (s .pre .1))))
+    ((o .rows .subjects, s .pre .0 .1), (objects-run (o .partners .table) sorted, contains-same (same-answers (sorted .same-objects)) (rw object at (s .pre .1 .contained))))
 
 returns-3 : tie.Need-returns-3
 unfolding leftRows

@@ -7,19 +7,10 @@ use borrow.Author.Tests.{eqb-true}
 use Rattle.model.specs.Lists.{sameWords}
 use Rattle.model.specs.Store.{rowsIn, tableWords}
 use Rattle.tables.specs.LeftRows.{leftRows}
-use Rattle.probes.proofs.Containing.{contains-unfiltered}
+use Rattle.probes.proofs.Containing.{contains-unfiltered, none-set}
 use Rattle.stored_rows.proofs.RowsBetween.{between-left}
 use Rattle.stored_rows.proofs.comparing.compare_partnered.Statement.{statement}
 use Rattle.stored_rows.proofs.comparing.compare_partnered.Tie as tie
-
-add-if2 : tie.Need-add-if2
-add-if2 c = search needs
-
-mul-if2 : tie.Need-mul-if2
-mul-if2 c = search needs
-
-element-copy-out-if2 : tie.Need-element-copy-out-if2
-element-copy-out-if2 c = search needs
 
 mul-lowest : tie.Need-mul-lowest
 mul-lowest c = search needs
@@ -36,6 +27,15 @@ mul-highest c = search needs
 element-copy-out-highest : tie.Need-element-copy-out-highest
 element-copy-out-highest c = search needs
 
+add-if2 : tie.Need-add-if2
+add-if2 c = search needs
+
+mul-if2 : tie.Need-mul-if2
+mul-if2 c = search needs
+
+element-copy-out-if2 : tie.Need-element-copy-out-if2
+element-copy-out-if2 c = search needs
+
 compare-between-requires : tie.Need-compare-between-requires
 compare-between-requires c κs = search needs
 
@@ -44,8 +44,8 @@ unfolding leftRows
 returns c =
     let s = c .before .before .before .before .before .before .before .before .before in
     let a = s .args in
-    let whole = eqb-true (getD (a .ranges .now) (a .place + 2) 0) 1 (c .before .before .before .if2 .taken) in
-    rw (c .before .before .before .before .before .if1 .taken)
+    let whole = eqb-true (getD (a .ranges .now) (a .place + 2) 0) 1 (c .before .if2 .taken) in
+    rw (c .before .before .before .if1 .taken)
     (c .compare-between .ensures
     ∙ ap (λ rows. sameWords (take (2 * a .k) (drop (a .at) (a .w .now))) (tableWords rows)) (between-left (a .w .now) (rowsIn (a .o .rows) (drop (a .o .start) (a .w .now))) (a .o .against) (a .o .partners) (a .o .other) (s .pre .1 .1) whole))
 
@@ -57,7 +57,8 @@ slice-aggregate-compare-filtered c = search needs
 
 compare-filtered-requires : tie.Need-compare-filtered-requires
 compare-filtered-requires c κs =
-    (c .before .before .before .before .before .before .before .pre .0, contains-unfiltered _ refl)
+    let pre = c .before .before .before .before .before .before .before .before .before .pre in
+    (pre .0, record { contained = contains-unfiltered _ refl; set-by-values = none-set _ 1; between = pre .1 .1 .between })
 
 returns-2 : tie.Need-returns-2
 returns-2 c = search needs
@@ -78,14 +79,14 @@ pub compare-partnered-spec : {M : Type 1} → statement M
 compare-partnered-spec =
     tie.close
     (tie.spec
-    add-if2
-    mul-if2
-    element-copy-out-if2
     mul-lowest
     element-copy-out-lowest
     add-highest
     mul-highest
     element-copy-out-highest
+    add-if2
+    mul-if2
+    element-copy-out-if2
     compare-between-requires
     returns
     should-filter-requires

@@ -19,10 +19,10 @@ use Rattle.stored_rows.proofs.comparing.compare_searched.Statement.{sta
 use Rattle.stored_rows.proofs.comparing.compare_searched.Tie as tie
 
 abbrev Inv-loop : tie.InvT-loop
-Inv-loop w objects first slots at k p m own q n other end next₀ i₀ next i = (i ≤ m) × Compared w at k (leftRows w p i own q n other) next
+Inv-loop w objects first slots lowest highest at k p m own q n other end next₀ i₀ next i = (i ≤ m) × Compared w at k (leftRows w p i own q n other) next
 
 abbrev μ-loop : tie.MeasureT-loop
-μ-loop w objects first slots at k p m own q n other end next₀ i₀ next i = m - i
+μ-loop w objects first slots lowest highest at k p m own q n other end next₀ i₀ next i = m - i
 
 -- what is answered is whether row i has a partner
 answer : (c : tie.After-has-partner Inv-loop μ-loop) →
