@@ -27,7 +27,7 @@ use Rattle.row_order.proofs.Proper.{word-passes}
 use Rattle.statistics.specs.Ranges.{rangeAt, AllMeasured, apart}
 use Rattle.statistics.proofs.ColumnRanges.{none-left}
 use Rattle.statistics.proofs.ComparedColumns.{number-small, column-of-number}
-use Rattle.semi_join_validation.specs.Joins.{entryAgrees, NoneStored, Joined, kindsApart, emptyPair}
+use Rattle.semi_join_validation.specs.Joins.{entryAgrees, isTold, Joined, kindsApart, emptyPair}
 use Rattle.semi_join_validation.proofs.IndexedOperands.{itself-left}
 use Rattle.semi_join_validation.proofs.Join.{ends-not-stored}
 use Rattle.semi_join_validation.proofs.Joined.{joined-more}
@@ -46,6 +46,12 @@ module _ (ranges : List ℕ) (p q : ℕ) where
   pub kind-apart : kindsApart ranges p q ≡ true → (k : ℕ) → k < kindCount → kindApart k ≡ true
   unfolding kindsApart
   kind-apart e k h = from-all (λ kind. apart ranges (rangeAt p (columnNumber (kind .0))) (rangeAt q (columnNumber (kind .1)))) kinds e (at-place kinds (subject, subject) k h)
+
+-- the entry at a place has the count of the rows that a semi-join leaves and no start, and at no threshold are they stored
+pub record NoneStored (words : List ℕ) (x : Reduced) (entry : ℕ) : Type 0 where
+  pub counted : getD words entry 0 ≡ length (x .rows)
+  pub no-start : getD words (entry + 1) 0 ≡ 0
+  pub unstored : (t : ℕ) → t ≤ mostThreshold → isStoredTable t x ≡ false
 
 -- no row is stored of none
 pub none-stored : (t left rows : ℕ) → left ≡ 0 → isStored t left rows ≡ false
@@ -95,7 +101,7 @@ module _ {count : ℕ} {words : List ℕ} (ranges : List ℕ) (image : ImageOf c
     one-all e = itself-left words operandsOf tables (mine .0) (theirs .0) (known .inside) e ∙ ap length (known .left)
 
     -- what the ranges tell of it
-    pub told : entryAgrees ranges (rangeAt p own) (rangeAt q other) (getD words (entryOf k) 0) (getD words (entryOf k + 1) 0) (getD words (vpEntryAt p + 1) 0) ≡ true
+    told : entryAgrees ranges (rangeAt p own) (rangeAt q other) (getD words (entryOf k) 0) (getD words (entryOf k + 1) 0) (getD words (vpEntryAt p + 1) 0) ≡ true
         → NoneStored words (joinOf k) (entryOf k)
     unfolding entryAgrees
     told e = go (eqb a b) refl (said .1)
@@ -131,6 +137,13 @@ module _ {count : ℕ} {words : List ℕ} (ranges : List ℕ) (image : ImageOf c
             let (zeros, away) = and-cases (eqb left 0) (apart ranges a b) e in
             counting 0 (eqb-true left 0 zeros) (sym (apart-none away)) (λ t few. none-stored t 0 _ refl)
 
+  pub told-none-stored : (k : ℕ) → k < kindCount → isTold count words ranges p q k ≡ true → NoneStored words (joinOf k) (entryOf k)
+  unfolding isTold
+  told-none-stored k m e =
+      let own = kindAt k .0 in
+      let other = kindAt k .1 in
+      told k (columnNumber own) (columnNumber other) m (number-small own, column-of-number own) (number-small other, column-of-number other) e
+
   -- the words of the entries of an empty pair are 0
   zero-word : all (λ x. leb x 0) (take (2 * kindCount) (drop (entryOf 0) words)) ≡ true → (j i : ℕ) → i < 2 * kindCount → j ≡ entryOf 0 + i → getD words j 0 ≡ 0
   zero-word zeros j i m e =
@@ -151,13 +164,18 @@ module _ {count : ℕ} {words : List ℕ} (ranges : List ℕ) (image : ImageOf c
         unstored = λ t few. none-stored t _ _ none;
       }
 
--- what each 1 of some numbers says, with one number more
-pub one-more : (says : ℕ → Type 0) (told : List ℕ) (k v : ℕ) → k < length told → ((j : ℕ) → j < k → getD told j 0 ≡ 1 → says j) → (v ≡ 1 → says k)
-    → (j : ℕ) → j < k + 1 → getD (set told k v) j 0 ≡ 1 → says j
-one-more says told k v room before this j h =
-    below-more (λ i. getD (set told k v) i 0 ≡ 1 → says i) k
-    (λ i l e. before i l (sym (getD-set-other told k i v 0 (λ same. omega (arith, l, same))) ∙ e))
-    (λ e. this (sym (getD-set-same told k v 0 room) ∙ e)) j h
+-- what each of some numbers is, with one number more
+pub one-more : (value : ℕ → ℕ) (numbers : List ℕ) (k v : ℕ) → k < length numbers → ((j : ℕ) → j < k → getD numbers j 0 ≡ value j) → v ≡ value k
+    → (j : ℕ) → j < k + 1 → getD (set numbers k v) j 0 ≡ value j
+one-more value numbers k v room before this j h =
+    below-more (λ i. getD (set numbers k v) i 0 ≡ value i) k
+    (λ i l. getD-set-other numbers k i v 0 (λ same. omega (arith, l, same)) ∙ before i l)
+    (getD-set-same numbers k v 0 room ∙ this) j h
+
+-- a 1 is that of what holds
+pub one-true : (n : ℕ) (b : Bool) → n ≡ cond b 1 0 → n ≡ 1 → b ≡ true
+one-true n true same e = refl
+one-true n false same e = absurd (omega (arith, same, e))
 
 module _ {count : ℕ} {words : List ℕ} (t used here : ℕ) (few : t ≤ mostThreshold) (image : ImageOf count words) (inside : used ≤ length words) (p q : ℕ) (h : p < count) (l : q < count) where
   -- with one that is told one more holds

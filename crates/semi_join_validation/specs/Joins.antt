@@ -7,7 +7,7 @@ use lib.ListN.{length, getD, take, drop}
 use lib.Dec.{eqb, leb}
 use Rattle.model.specs.Lists.{all, sameWords}
 use Rattle.model.specs.Site.{Row}
-use Rattle.model.specs.Tables.{kinds, kindCount, mostThreshold}
+use Rattle.model.specs.Tables.{kinds, kindAt, kindCount, mostThreshold}
 use Rattle.model.specs.Store.{Reduced, semiJoins, isStoredTable, storedRows, tableWords, semiJoinEntries, storedStart, storedWords, vpEntryAt, semiJoinEntryAt}
 use Rattle.tables.specs.Columns.{columnNumber}
 use Rattle.tables.specs.SiteWords.{siteIn, ImageOf}
@@ -35,11 +35,11 @@ notStoredHolds left start n = eqb left n && eqb start 0
 unfoldable pub entryAgrees : List ℕ → ℕ → ℕ → ℕ → ℕ → ℕ → Bool
 entryAgrees ranges a b left start n = eqb start 0 && cond (eqb a b) (eqb left n) (eqb left 0 && apart ranges a b)
 
--- the entry at a place has the count of the rows that a semi-join leaves and no start, and at no threshold are they stored
-pub record NoneStored (words : List ℕ) (x : Reduced) (entry : ℕ) : Type 0 where
-  pub counted : getD words entry 0 ≡ length (x .rows)
-  pub no-start : getD words (entry + 1) 0 ≡ 0
-  pub unstored : (t : ℕ) → t ≤ mostThreshold → isStoredTable t x ≡ false
+-- so of the columns that kind k of p against q compares, all rows of p, and the kind's entry
+unfoldable pub isTold : ℕ → List ℕ → List ℕ → ℕ → ℕ → ℕ → Bool
+isTold count words ranges p q k =
+    let entry = semiJoinEntryAt count p q k in
+    entryAgrees ranges (rangeAt p (columnNumber (kindAt k .0))) (rangeAt q (columnNumber (kindAt k .1))) (getD words entry 0) (getD words (entry + 1) 0) (getD words (vpEntryAt p + 1) 0)
 
 -- the entry at a place, and the rows at `here` if they are stored, which end at `used` or before
 unfoldable pub joinHolds : ℕ → List ℕ → Reduced → ℕ → ℕ → ℕ → Bool

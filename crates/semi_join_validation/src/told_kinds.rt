@@ -1,12 +1,10 @@
 ghost use mathlib.Core.Path.{_≡_};
-ghost use mathlib.Core.Bool.{true};
+ghost use mathlib.Core.Bool.{cond};
 ghost use Prim.Native.Nat.{ℕ, _<_, _≤_, _+_};
 ghost use lib.ListN.{length, getD};
-ghost use Rattle.model.specs.Store.{semiJoinPlace, semiJoinEntryAt};
 ghost use Rattle.model.specs.Tables.{kindCount};
-ghost use Rattle.tables.specs.SiteWords.{siteIn, ImageOf, reducedAt};
-ghost use Rattle.statistics.specs.Ranges.{AllMeasured};
-ghost use Rattle.semi_join_validation.specs.Joins.{entryAgrees, NoneStored};
+ghost use Rattle.tables.specs.SiteWords.{ImageOf};
+ghost use Rattle.semi_join_validation.specs.Joins.{entryAgrees, isTold};
 use statistics::ranges::columns_apart;
 use statistics::ranges::range_at;
 use tables::kinds::KINDS;
@@ -36,8 +34,8 @@ fn entry_agrees(w: &[u32], ranges: &[u32; 96], a: usize, b: usize, n: usize, ent
 
 // Whether the ranges tell what the semi-join of kind k of p against q leaves, and its entry says so: then no row of it is stored.
 fn is_told(w: &[u32], ranges: &[u32; 96], count: usize, p: usize, q: usize, k: usize) -> bool
-    requires { ⌜ ImageOf count (now w) × (p < count) × (q < count) × (k < kindCount) × AllMeasured (now w) (now ranges) count ⌝ }
-    ensures { λ r. ⌜ (r ≡ true → NoneStored (now (w .entry)) (reducedAt (siteIn count (now (w .entry))) (semiJoinPlace count p q k)) (semiJoinEntryAt count p q k)) ⌝ }
+    requires { ⌜ ImageOf count (now w) × (p < count) × (q < count) × (k < kindCount) ⌝ }
+    ensures { λ r. ⌜ r ≡ isTold count (now (w .entry)) (now (ranges .entry)) p q k ⌝ }
 {
     let table = table_entry(w, p);
     let a = range_at(p, own_column(k));
@@ -62,8 +60,8 @@ pub fn tell_kinds(
     q: usize,
     told: &mut [u8; KINDS],
 )
-    requires { ⌜ ImageOf count (now w) × (p < count) × (q < count) × AllMeasured (now w) (now ranges) count × (length (now told) ≡ kindCount) ⌝ }
-    ensures { λ _. ⌜ ((j : ℕ) → j < kindCount → getD (now (told .exit)) j 0 ≡ 1 → NoneStored (now (w .entry)) (reducedAt (siteIn count (now (w .entry))) (semiJoinPlace count p q j)) (semiJoinEntryAt count p q j)) × (length (now (told .exit)) ≡ kindCount) ⌝ }
+    requires { ⌜ ImageOf count (now w) × (p < count) × (q < count) × (length (now told) ≡ kindCount) ⌝ }
+    ensures { λ _. ⌜ ((j : ℕ) → j < kindCount → getD (now (told .exit)) j 0 ≡ cond (isTold count (now (w .entry)) (now (ranges .entry)) p q j) 1 0) × (length (now (told .exit)) ≡ kindCount) ⌝ }
 {
     for k in 0..KINDS {
         if is_told(w, ranges, count, p, q, k) {

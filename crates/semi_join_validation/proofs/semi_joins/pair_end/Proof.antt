@@ -9,7 +9,7 @@ use Rattle.model.specs.Tables.{kindCount}
 use Rattle.tables.proofs.Entries.{place-below}
 use Rattle.semi_join_validation.specs.Joins.{Joined}
 use Rattle.semi_join_validation.proofs.Joined.{joined-more, one-fails}
-use Rattle.semi_join_validation.proofs.ToldByRanges.{kind-joined}
+use Rattle.semi_join_validation.proofs.ToldByRanges.{told-none-stored, one-true, kind-joined}
 use Rattle.semi_join_validation.proofs.semi_joins.pair_end.Statement.{statement}
 use Rattle.semi_join_validation.proofs.semi_joins.pair_end.Tie as tie
 
@@ -39,7 +39,10 @@ step j =
     (joined-more _ _ _ _ (s .pre .0 .0) (s .pre .0 .4) (l .loop .inv .1) (place-below _ _ _ (s .pre .0 .1) (s .pre .0 .2) turn-of) (w .1 .ensures) (w .3 .given .1)))
     (λ w.
     rw (w .1)
-    (kind-joined _ _ _ (s .pre .0 .3) (s .pre .0 .0) (s .pre .0 .4) _ _ (s .pre .0 .1) (s .pre .0 .2) _ turn-of (l .before .tell-kinds .ensures .0 _ turn-of (w .0 .left)) (l .loop .inv .1)))
+    (kind-joined _ _ _ (s .pre .0 .3) (s .pre .0 .0) (s .pre .0 .4) _ _ (s .pre .0 .1) (s .pre .0 .2) _ turn-of
+    (told-none-stored (a .ranges .now) (s .pre .0 .0) (s .pre .1 .0 .measured) (a .p) (a .q) (s .pre .0 .1) (s .pre .0 .2) (l .loop .k) turn-of
+    (one-true _ _ (l .before .tell-kinds .ensures .0 _ turn-of) (w .0 .left)))
+    (l .loop .inv .1)))
     (j .if1 .came)
 
 loop-holds : tie.Need-loop-holds Inv-loop μ-loop
@@ -48,7 +51,7 @@ loop-holds c = (omega arith, c .before .before .before .before .pre .1 .2)
 tell-kinds-requires : tie.Need-tell-kinds-requires Inv-loop μ-loop
 tell-kinds-requires c κs =
     let pre = c .before .before .before .pre in
-    (pre .0 .0, pre .0 .1, pre .0 .2, pre .1 .0 .measured, refl)
+    (pre .0 .0, pre .0 .1, pre .0 .2, refl)
 
 array-read-if1 : tie.Need-array-read-if1 Inv-loop μ-loop
 array-read-if1 c = omega arith

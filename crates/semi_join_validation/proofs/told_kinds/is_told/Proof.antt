@@ -1,12 +1,15 @@
 -- The ranges and the entry of the kind are asked.
 use Prim.Native.Nat.{_<_}
 use native.Mathlib.Omega.{arith}
-use mathlib.Core.Path.{sym, _∙_}
+use mathlib.Core.Path.{_≡_, sym}
 use borrow.Author.Needs.{needs}
 use Rattle.model.specs.Site.{mostPredicates}
+use Rattle.model.specs.Tables.{kindAt}
+use Rattle.tables.specs.Columns.{columnNumber}
 use Rattle.tables.proofs.Images.{few-predicates, entries-inside, entry-inside}
 use Rattle.tables.proofs.Entries.{place-below}
-use Rattle.semi_join_validation.proofs.ToldByRanges.{told}
+use Rattle.statistics.proofs.ComparedColumns.{number-of}
+use Rattle.semi_join_validation.specs.Joins.{isTold}
 use Rattle.semi_join_validation.proofs.told_kinds.is_told.Statement.{statement}
 use Rattle.semi_join_validation.proofs.told_kinds.is_told.Tie as tie
 
@@ -46,6 +49,7 @@ entry-agrees-requires c κs =
     )
 
 returns : tie.Need-returns
+unfolding isTold
 returns c =
     let entry = c .before in
     let theirs = entry .before in
@@ -54,10 +58,10 @@ returns c =
     let own = mine .before in
     let table = own .before in
     let s = table .before .before in
-    λ agrees.
-    told (s .args .ranges .now) (s .pre .0) (s .pre .4) (s .args .p) (s .args .q) (s .pre .1) (s .pre .2) _ _ _ (s .pre .3) (own .own-column .ensures) (partner .partner-column .ensures)
-    (rw (sym (mine .range-at .ensures), sym (theirs .range-at2 .ensures), sym (entry .semi-join-entry-at .ensures), sym (table .table-entry .ensures .rows))
-    (sym (c .entry-agrees .ensures) ∙ agrees))
+    let mine-is : columnNumber (kindAt (s .args .k) .0) ≡ own .own-column .result = number-of _ (own .own-column .ensures .0) (own .own-column .ensures .1) in
+    let theirs-is : columnNumber (kindAt (s .args .k) .1) ≡ partner .partner-column .result = number-of _ (partner .partner-column .ensures .0) (partner .partner-column .ensures .1) in
+    rw (mine-is, theirs-is, sym (mine .range-at .ensures), sym (theirs .range-at2 .ensures), sym (entry .semi-join-entry-at .ensures), sym (table .table-entry .ensures .rows))
+    (c .entry-agrees .ensures)
 
 pub is-told-spec : {M : Type 1} → statement M
 is-told-spec =

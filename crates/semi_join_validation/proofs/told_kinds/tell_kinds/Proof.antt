@@ -1,13 +1,12 @@
--- The kinds one by one. The invariant: of those asked each with a 1 is told.
+-- The kinds one by one. The invariant: those asked have a 1 where they are told.
 use Prim.Native.Nat.{ℕ, _-_, _≤_, _<_}
 use native.Mathlib.Omega.{arith}
-use mathlib.Core.Path.{_≡_, _∙_}
+use mathlib.Core.Path.{_≡_, refl, sym, _∙_}
+use mathlib.Core.Bool.{cond}
 use mathlib.Core.Logic.{⊎-elim}
 use lib.ListN.{length, getD, length-set}
-use Rattle.model.specs.Store.{semiJoinPlace, semiJoinEntryAt}
 use Rattle.model.specs.Tables.{kindCount}
-use Rattle.tables.specs.SiteWords.{siteIn, reducedAt}
-use Rattle.semi_join_validation.specs.Joins.{NoneStored}
+use Rattle.semi_join_validation.specs.Joins.{isTold}
 use Rattle.semi_join_validation.proofs.ToldByRanges.{one-more}
 use Rattle.semi_join_validation.proofs.told_kinds.tell_kinds.Statement.{statement}
 use Rattle.semi_join_validation.proofs.told_kinds.tell_kinds.Tie as tie
@@ -15,7 +14,7 @@ use Rattle.semi_join_validation.proofs.told_kinds.tell_kinds.Tie as tie
 abbrev Inv-loop : tie.InvT-loop
 Inv-loop w ranges count p q told₀ k₀ told k =
     (k ≤ kindCount) × (length told ≡ kindCount)
-    × ((j : ℕ) → j < k → getD told j 0 ≡ 1 → NoneStored w (reducedAt (siteIn count w) (semiJoinPlace count p q j)) (semiJoinEntryAt count p q j))
+    × ((j : ℕ) → j < k → getD told j 0 ≡ cond (isTold count w ranges p q j) 1 0)
 
 abbrev μ-loop : tie.MeasureT-loop
 μ-loop w ranges count p q told₀ k₀ told k = kindCount - k
@@ -25,12 +24,12 @@ abbrev start : tie.At-loop Inv-loop μ-loop → tie.Start Inv-loop μ-loop
 start l = l .before .before
 
 loop-holds : tie.Need-loop-holds Inv-loop μ-loop
-loop-holds c = (omega arith, c .before .pre .4, λ j h. absurd (omega (arith, h)))
+loop-holds c = (omega arith, c .before .pre .3, λ j h. absurd (omega (arith, h)))
 
 is-told-requires : tie.Need-is-told-requires Inv-loop μ-loop
 is-told-requires c κs =
     let s = start (c .before) in
-    (s .pre .0, s .pre .1, s .pre .2, c .loop-test .taken, s .pre .3)
+    (s .pre .0, s .pre .1, s .pre .2, c .loop-test .taken)
 
 element-write-told : tie.Need-element-write-told Inv-loop μ-loop
 element-write-told c = let i = c .before .before in omega (arith, i .before .loop .inv .1, i .loop-test .taken)
@@ -53,10 +52,11 @@ loop-again c =
     let told = l .loop .told in
     let k = l .loop .k in
     let room : k < length told = omega (arith, inv .1, i .loop-test .taken) in
-    let more = one-more (λ j. NoneStored (a .w .now) (reducedAt (siteIn (a .count) (a .w .now)) (semiJoinPlace (a .count) (a .p) (a .q) j)) (semiJoinEntryAt (a .count) (a .p) (a .q) j)) told k in
+    let more = one-more (λ j. cond (isTold (a .count) (a .w .now) (a .ranges .now) (a .p) (a .q) j) 1 0) told k in
+    let asked = sym (c .before .is-told .ensures) in
     ⊎-elim
-    (λ w. rw (w .1) (omega arith, length-set told k 1 ∙ inv .1, more 1 room (inv .2) (λ _. c .before .is-told .ensures (w .0 .taken))))
-    (λ w. rw (w .1) (omega arith, length-set told k 0 ∙ inv .1, more 0 room (inv .2) (λ e. absurd (omega (arith, e)))))
+    (λ w. rw (w .1) (omega arith, length-set told k 1 ∙ inv .1, more 1 room (inv .2) (rw (asked ∙ w .0 .taken) refl)))
+    (λ w. rw (w .1) (omega arith, length-set told k 0 ∙ inv .1, more 0 room (inv .2) (rw (asked ∙ w .0 .left) refl)))
     (c .if1 .came)
 
 returns : tie.Need-returns Inv-loop μ-loop
