@@ -53,15 +53,15 @@ def random_numbers(state):
     return below
 
 
-def random_pattern(below, predicates, most=8):
-    """A pattern of at most so many triple patterns, in first-use order."""
+def random_pattern(below, predicates, most=8, variables=8):
+    """A pattern of at most so many triple patterns and variables, in first-use order."""
     seen, pattern = 0, []
 
     def position():
         nonlocal seen
         if below(4) == 0:
             return 2 * below(6)
-        variable = below(min(seen + 1, 8))
+        variable = below(min(seen + 1, variables))
         seen = max(seen, variable + 1)
         return 2 * variable + 1
 

@@ -1,7 +1,7 @@
 """The further cases of `plan`: a store's words, then what is asked over them."""
 from making import BAD_FORM, Over, faults_apart, joined, random_numbers, random_pattern
 from reference import KINDS, MOST_TERM, layout, number, pattern_file, read_site
-from sites import CHECK, DOOR_THAT_LEADS, DOORS, DOORS_WORDS, G1, G1_WORDS, NO_DOOR_SHARED, NONE_BY_COUNTS, ONE_DOOR, Q1, SHOP, SHOP_WORDS, SMALL_WORDS, STAR_OF_TERMS, THREE_ON_A_DOOR
+from sites import CHECK, DOOR_THAT_LEADS, DOORS, DOORS_WORDS, G1, G1_WORDS, NO_DOOR_SHARED, NONE_BY_COUNTS, ONE_DOOR, Q1, RINGS, SHOP, SHOP_WORDS, SMALL_WORDS, STAR_OF_TERMS, THREE_ON_A_DOOR
 
 
 def stores():
@@ -132,6 +132,16 @@ def patterns():
         yield shop.plan(CHECK + bytes([extra]))
 
 
+def first_uses(count, seen=0):
+    """Every list of so many variables, as positions, in first-use order."""
+    if count == 0:
+        yield []
+        return
+    for variable in range(seen + 1):
+        for others in first_uses(count - 1, max(seen, variable + 1)):
+            yield [2 * variable + 1, *others]
+
+
 def plans():
     """The planner: its choices, its order, and every tie."""
     shop = Over(SHOP_WORDS)
@@ -167,6 +177,15 @@ def plans():
     # the rows of the table chosen decide the order, not those of VP
     yield ties.held()
     yield ties.plan(pattern_file([(1, 4, 3), (5, 2, 7), (5, 4, 5)]))
+    # S-16: every check of three triple patterns, by which of its variables are the same; and long ones of few variables
+    for threshold in (1000, 0):
+        rings = Over(layout(threshold, RINGS))
+        yield rings.held()
+        for subject, obj, *others in first_uses(6):
+            yield rings.plan(pattern_file([(subject, 2, obj), (others[0], 4, others[1]), (others[2], 4, others[3])]))
+        below = random_numbers(threshold)
+        for _ in range(60):
+            yield rings.plan(random_pattern(below, [1, 2], variables=4))
     # many patterns
     sites = [read_site(SHOP), G1, [(1, [(s, (3 * s) % 5) for s in range(6)]), (2, [(s, s) for s in range(2)]), (5, []), (9, [(2, 0), (4, 3)])]]
     for threshold in (1000, 600, 0):

@@ -4,7 +4,7 @@ from itertools import permutations, product
 
 from making import BAD_FORM, Over, faults_apart, joined, random_numbers, random_pattern
 from reference import choices, layout, number, pattern_file, plan_file, read_pattern, read_site, site_file
-from sites import CHECK, CHECK_PLAN, CHECK_PLAN_OF_BEFORE, DOOR_THAT_LEADS, DOORS, DOORS_WORDS, G1, G1_WORDS, NO_DOOR_SHARED, NONE_BY_COUNTS, ONE_DOOR, Q1, SHOP, SHOP_WORDS, SMALL_WORDS, SPREAD, SPREAD_PATH, SPREAD_STAR, STAR_OF_TERMS, THREE_ON_A_DOOR
+from sites import CHECK, CHECK_PLAN, CHECK_PLAN_OF_BEFORE, DOOR_THAT_LEADS, DOORS, DOORS_WORDS, G1, G1_WORDS, NO_DOOR_SHARED, NONE_BY_COUNTS, ONE_DOOR, Q1, RING, RINGS, SHOP, SHOP_WORDS, SMALL_WORDS, SPREAD, SPREAD_PATH, SPREAD_STAR, STAR_OF_TERMS, THREE_ON_A_DOOR
 
 
 def given_plans():
@@ -91,6 +91,7 @@ def every_plan():
         (1000, [(1, [(1, 1), (1, 2), (2, 2), (3, 1)]), (2, [(1, 3), (2, 2)])], (pattern_file([(1, 2, 1), (1, 4, 3), (3, 2, 5)]),)),
         (1000, SPREAD, (SPREAD_PATH, SPREAD_STAR)),
         (1000, DOORS, (ONE_DOOR, THREE_ON_A_DOOR, DOOR_THAT_LEADS, NO_DOOR_SHARED)),
+        (1000, RINGS, (RING,)),
     ):
         over = Over(layout(threshold, site))
         yield over.held()
@@ -210,6 +211,7 @@ def chains():
         yield site_file(SPREAD), check, 24
     for check in (ONE_DOOR, THREE_ON_A_DOOR, NO_DOOR_SHARED):
         yield site_file(DOORS), check, 24
+    yield site_file(RINGS), RING, 24
     # a store of 8,192 words does not hold every site: 9, also of one that it held while three kinds were listed; and one that it holds
     for rows in (64, 10, 8):
         yield site_file([(p, [(s, s + p % 2) for s in range(rows)]) for p in range(16)]), pattern_file([(2, 2, 1)]), 24

@@ -39,6 +39,9 @@ ONE_DOOR = pattern_file([(1, 2, 3), (5, 4, 3)])
 THREE_ON_A_DOOR = pattern_file([(1, 2, 3), (5, 4, 3), (7, 2, 3)])
 DOOR_THAT_LEADS = pattern_file([(1, 2, 3), (5, 4, 3), (3, 6, 7)])
 NO_DOOR_SHARED = pattern_file([(1, 2, 3), (5, 6, 3)])
+# S-16: ?0 1 ?1, ?1 2 ?2, ?0 2 ?1, a ring: when the first is taken, both variables of the last are met
+RINGS = [(1, [(10, 20), (11, 21), (12, 20)]), (2, [(10, 20), (11, 20), (20, 30), (20, 31), (21, 30)])]
+RING = pattern_file([(1, 2, 3), (3, 4, 5), (1, 4, 3)])
 # Terms that are equal in their last 23, 16 or 10 bits, of predicates that are so too: taken for equal, they would change every semi-join.
 FAR, HALF = 2**24 - 65536, 2**23
 SPREAD = [

@@ -12,7 +12,7 @@ import build_cases
 import plan_cases
 import run_cases
 from reference import Refused, build, chain, choices, layout, plan, read_pattern, read_store, run, variables, whether
-from sites import CHECK, CHECK_PLAN, G1, G1_WORDS, Q1, SHOP, SHOP_WORDS, STAR_OF_TERMS
+from sites import CHECK, CHECK_PLAN, G1, G1_WORDS, Q1, RING, RINGS, SHOP, SHOP_WORDS, STAR_OF_TERMS
 
 FOLDER = os.path.join(os.path.dirname(os.path.abspath(__file__)), '..', 'crates', 'vectors')
 
@@ -116,6 +116,8 @@ def assert_papers():
     assert plan(G1_WORDS, Q1)[:2] == [(2, 1 + 4 * 3 + 1), (3, 1 + 4 * 2 + 2)]
     # the paper's one row of Q1: ?x A, ?w I2, ?y B, ?z C; in Q1's reading order x, w, y, z are variables 0 to 3
     assert run(G1_WORDS, Q1, bytes([2, 13 + 1, 3, 11, 0, 0, 1, 0]), [7] * 4) == (1, 4, [1, 6, 2, 3])
+    # S-16: when place 0 is taken, both variables of place 2 are met and one of place 1
+    assert [place for place, _ in plan(layout(1000, RINGS), RING)] == [0, 2, 1]
     # Algorithm 4 taken literally makes a cross join of the first two that it picks; ours picks one that shares a variable
     pattern, literal = literal_order(SHOP_WORDS, STAR_OF_TERMS)
     ours = [place for place, _ in plan(SHOP_WORDS, STAR_OF_TERMS)]

@@ -14,6 +14,12 @@ uint32_t reference_build(uint32_t t, const uint8_t *site, size_t site_bytes, uin
 uint32_t reference_plan(const uint32_t *store, size_t store_words, const uint8_t *pattern, size_t pattern_bytes, uint8_t plan[16],
                         uint64_t answer[4]);
 
+/* The same, with what counts as a term: only what is written, as before S-16, or a variable met in an earlier step too. */
+enum counting { WRITTEN_ONLY, MET_TOO };
+
+uint32_t reference_plan_by(enum counting counting, const uint32_t *store, size_t store_words, const uint8_t *pattern, size_t pattern_bytes,
+                           uint8_t plan[16], uint64_t answer[4]);
+
 uint32_t reference_run(const uint32_t *store, size_t store_words, const uint8_t *pattern, size_t pattern_bytes, const uint8_t *plan,
                        size_t plan_bytes, uint32_t *rows, size_t row_words, uint64_t answer[4]);
 

@@ -96,13 +96,13 @@ size_t reference_choices(const uint32_t *store, size_t store_words, const uint8_
 /* ---- the planner */
 
 struct candidate {
-    uint32_t choice, terms;
+    uint32_t choice;
     int64_t rows;
     int taken;
 };
 
 static struct candidate candidate_at(const struct site *site, const struct pattern *pattern, uint32_t i) {
-    struct candidate best = {0, 0, pattern->table[i]->count, 0};
+    struct candidate best = {0, pattern->table[i]->count, 0};
     for (uint32_t choice = 1; choice < MOST_CHOICES; choice++) {
         int64_t rows = choice_rows(site, pattern, i, choice);
         if (rows >= 0 && rows < best.rows) {
@@ -110,32 +110,44 @@ static struct candidate candidate_at(const struct site *site, const struct patte
             best.rows = rows;
         }
     }
-    for (int column = 0; column < 3; column++)
-        best.terms += !pattern->at[i][column].is_variable;
     return best;
 }
 
-static int shares_variable(const struct pattern *pattern, const struct candidate *candidates, uint32_t i) {
+/* The position holds a variable that stands in a place taken. */
+static int is_met(const struct pattern *pattern, const struct candidate *candidates, const struct position *position) {
     for (uint32_t j = 0; j < pattern->count; j++)
-        for (int a = 0; candidates[j].taken && a < 3; a++)
-            for (int b = 0; b < 3; b++)
-                if (same_variable(&pattern->at[i][a], &pattern->at[j][b]))
-                    return 1;
+        for (int column = 0; candidates[j].taken && column < 3; column++)
+            if (same_variable(position, &pattern->at[j][column]))
+                return 1;
     return 0;
 }
 
-static int goes_before(const struct candidate *a, const struct candidate *b) {
-    return a->terms > b->terms || (a->terms == b->terms && a->rows < b->rows);
+static uint32_t met_positions(const struct pattern *pattern, const struct candidate *candidates, uint32_t i) {
+    uint32_t count = 0;
+    for (int column = 0; column < 3; column++)
+        count += (uint32_t)is_met(pattern, candidates, &pattern->at[i][column]);
+    return count;
 }
 
-static uint32_t next_place(const struct pattern *pattern, const struct candidate *candidates) {
+/* The terms of place i: those written and, as S-16 says, the variables met. */
+static uint32_t count_terms(const struct pattern *pattern, const struct candidate *candidates, uint32_t i, enum counting counting) {
+    uint32_t count = counting == MET_TOO ? met_positions(pattern, candidates, i) : 0;
+    for (int column = 0; column < 3; column++)
+        count += !pattern->at[i][column].is_variable;
+    return count;
+}
+
+static uint32_t next_place(const struct pattern *pattern, const struct candidate *candidates, enum counting counting) {
     for (int joined = 1; joined >= 0; joined--) {
-        uint32_t best = MOST_TRIPLES;
+        uint32_t best = MOST_TRIPLES, most = 0;
         for (uint32_t i = 0; i < pattern->count; i++) {
-            if (candidates[i].taken || (joined && !shares_variable(pattern, candidates, i)))
+            if (candidates[i].taken || (joined && met_positions(pattern, candidates, i) == 0))
                 continue;
-            if (best == MOST_TRIPLES || goes_before(&candidates[i], &candidates[best]))
+            uint32_t terms = count_terms(pattern, candidates, i, counting);
+            if (best == MOST_TRIPLES || terms > most || (terms == most && candidates[i].rows < candidates[best].rows)) {
                 best = i;
+                most = terms;
+            }
         }
         if (best < MOST_TRIPLES)
             return best;
@@ -143,7 +155,8 @@ static uint32_t next_place(const struct pattern *pattern, const struct candidate
     abort();
 }
 
-uint32_t reference_plan(const uint32_t *store, size_t store_words, const uint8_t *data, size_t size, uint8_t plan[16], uint64_t answer[4]) {
+uint32_t reference_plan_by(enum counting counting, const uint32_t *store, size_t store_words, const uint8_t *data, size_t size, uint8_t plan[16],
+                           uint64_t answer[4]) {
     struct site site;
     struct pattern pattern;
     struct candidate candidates[MOST_TRIPLES];
@@ -154,11 +167,15 @@ uint32_t reference_plan(const uint32_t *store, size_t store_words, const uint8_t
     for (uint32_t i = 0; i < pattern.count; i++)
         candidates[i] = candidate_at(&site, &pattern, i);
     for (uint32_t n = 0; n < pattern.count; n++) {
-        uint32_t i = next_place(&pattern, candidates);
+        uint32_t i = next_place(&pattern, candidates, counting);
         candidates[i].taken = 1;
         plan[2 * n] = (uint8_t)i;
         plan[2 * n + 1] = (uint8_t)candidates[i].choice;
     }
     set_answer(answer, PLAN, pattern.count, 0);
     return 0;
+}
+
+uint32_t reference_plan(const uint32_t *store, size_t store_words, const uint8_t *data, size_t size, uint8_t plan[16], uint64_t answer[4]) {
+    return reference_plan_by(MET_TOO, store, store_words, data, size, plan, answer);
 }

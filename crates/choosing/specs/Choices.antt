@@ -5,11 +5,10 @@ use mathlib.Core.Bool.{Bool, cond, _&&_, not}
 use mathlib.Core.List.{List}
 use lib.ListN.{length, getD}
 use lib.Dec.{eqb}
-use Rattle.model.specs.Lists.{filter}
 use Rattle.model.specs.Tables.{semiJoin, kindAt, isStored}
 use Rattle.model.specs.Store.{Store}
-use Rattle.model.specs.Pattern.{Pattern, positions, tripleAt, positionAt, sameVariable, predicateTable}
-use Rattle.model.specs.Planner.{chooseTable, chosenRows, isFixed}
+use Rattle.model.specs.Pattern.{Pattern, positionAt, sameVariable, predicateTable}
+use Rattle.model.specs.Planner.{chooseTable, chosenRows}
 use Rattle.model.specs.declared.pattern.TriplePattern.{TriplePattern}
 use Rattle.positions.specs.declared.pattern.Member.{Member}
 use Rattle.choosing.specs.declared.choosing.Chooseable.{Chooseable}
@@ -26,8 +25,7 @@ chooseableTable store a i b j k =
     let left = semiJoin (kindAt k) full (predicateTable (store .site) (b .triple .predicate)) in
     cond (qualifiesBy (a .triple) i (b .triple) j k && isStored (store .threshold) (length left) (length full)) (Rows (length left)) Nothing
 
--- for each of n places: the choice, the rows of the table chosen, and the terms among the positions
-pub record TablesChosen (store : Store) (pattern : Pattern) (n : ℕ) (choices rows terms : List ℕ) : Type 0 where
+-- for each of n places: the choice, and the rows of the table chosen
+pub record TablesChosen (store : Store) (pattern : Pattern) (n : ℕ) (choices rows : List ℕ) : Type 0 where
   pub choice : (i : ℕ) → i < n → getD choices i 0 ≡ chooseTable store pattern i
   pub row-count : (i : ℕ) → i < n → getD rows i 0 ≡ chosenRows store pattern i
-  pub term-count : (i : ℕ) → i < n → getD terms i 0 ≡ length (filter isFixed (positions (tripleAt pattern i)))

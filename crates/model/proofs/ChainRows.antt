@@ -19,7 +19,7 @@ use Rattle.model.specs.Store.{Store, storeAt, layout, Holds}
 use Rattle.model.specs.Pattern.{Pattern, mostTriplePatterns, width}
 use Rattle.model.specs.PatternFile.{readPattern}
 use Rattle.model.specs.Plan.{Plan, isPlace, isStep, mayChoose, isProper}
-use Rattle.model.specs.PlanFile.{stepNumbers, planBytes}
+use Rattle.model.specs.PlanFile.{stepNumbers, planBytes, readPlan}
 use Rattle.model.specs.Planner.{planned}
 use Rattle.model.specs.Solutions.{solutions}
 use Rattle.model.specs.Calls.{Outcome, outcome, either, build, checkedUnder, padded, planNumbers, planUnder, plan, rowsOutcome}
@@ -91,6 +91,12 @@ module _ (store : Store) (pattern : Pattern) (few : length pattern ≤ mostTripl
       (front (concatMap stepNumbers plan) _ (2 * mostTriplePatterns) (rw (numbers-length plan) (omega arith)))
       ∙ sym (steps-bytes plan all-steps)
 
+  -- so the planner's plan is read back
+  pub planned-read : readPlan store pattern (stepBytes (planNumbers (planned store pattern))) ≡ gives (planned store pattern)
+  planned-read =
+      let proper = planned-proper store pattern in
+      rw (proper-bytes (planned store pattern) proper) (plan-file store pattern few .1 (planned store pattern) proper .1)
+
 -- ---- the chain
 
 -- a refusal, and no other answer
@@ -142,7 +148,5 @@ module _ (file check memory : List ℕ) (site : Site) (whole : readSite file ≡
   chain-solutions pattern read = over-built (rowsOutcome (width pattern) (solutions site pattern) memory) λ words holds.
       let store = storeAt chainThreshold site in
       let few = pattern-limit site pattern (pattern-accepted site check pattern read) in
-      let proper = planned-proper store pattern in
-      let back = plan-file store pattern few .1 (planned store pattern) proper .1 in
-      rw (plan-succeeds words check chainThreshold site pattern holds read, proper-bytes store pattern few (planned store pattern) proper)
-      (run-succeeds words check chainThreshold site pattern holds read (planBytes (planned store pattern)) (planned store pattern) back memory)
+      rw (plan-succeeds words check chainThreshold site pattern holds read)
+      (run-succeeds words check chainThreshold site pattern holds read _ (planned store pattern) (planned-read store pattern few) memory)

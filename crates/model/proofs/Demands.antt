@@ -9,6 +9,7 @@ pub mod Store
 pub mod Files
 pub mod Screen
 pub mod Planner
+pub mod MetVariables
 pub mod Limits
 pub mod Kept
 pub mod Cases

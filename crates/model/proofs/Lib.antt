@@ -17,6 +17,7 @@ pub mod Partition
 pub mod SemiJoins
 pub mod Places
 pub mod MayChoose
+pub mod MetVariables
 pub mod PlanFile
 pub mod RefusedRows
 pub mod RefusedTriples
@@ -48,6 +49,7 @@ pub mod Memory
 pub mod Cases
 pub mod AnswerCases
 pub mod SharedObjectCases
+pub mod MetVariableCases
 pub mod ChainRows
 pub mod FittingRows
 pub mod Answers

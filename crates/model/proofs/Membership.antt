@@ -1,5 +1,5 @@
 -- What stands in a list that is kept, gathered or tested.
-use Prim.Native.Nat.{ℕ, zero, suc, _≤_, _<_}
+use Prim.Native.Nat.{ℕ, zero, suc, _+_, _≤_, _<_}
 use native.Mathlib.Omega.{arith}
 use native.Mathlib.Nat.{not-suc-le-zero, le-of-suc-le-suc}
 use mathlib.Core.Path.{_≡_, refl, sym, ap, _∙_, subst}
@@ -65,6 +65,17 @@ module _ {A : Type 0} (p : A → Bool) where
       go : (b : Bool) → length (filter p xs) ≤ length xs → length (cond b (x ∷ filter p xs) (filter p xs)) ≤ suc (length xs)
       go true h = omega arith
       go false h = omega arith
+
+  -- of three each counts for itself
+  pub count-three : (x y z : A) → length (filter p (x ∷ y ∷ z ∷ [])) ≡ cond (p x) 1 0 + (cond (p y) 1 0 + cond (p z) 1 0)
+  count-three x y z = let a = first x (y ∷ z ∷ []) in let b = first y (z ∷ []) in let c = first z [] in omega arith
+    where
+      first : (x : A) (xs : List A) → length (filter p (x ∷ xs)) ≡ cond (p x) 1 0 + length (filter p xs)
+      first x xs = go (p x)
+        where
+          go : (b : Bool) → length (cond b (x ∷ filter p xs) (filter p xs)) ≡ cond b 1 0 + length (filter p xs)
+          go true = omega arith
+          go false = omega arith
 
   pub into-any : {a : A} {l : List A} → a ∈ l → p a ≡ true → any p l ≡ true
   into-any (List·Memᴰ·head {x} {xs} q) e = or-left (any p xs) (sym (ap p q) ∙ e)

@@ -1,5 +1,5 @@
 -- The order of a plan: each pick is the first competitor by most terms, then fewest rows, then lowest place.
-use Prim.Native.Nat.{ℕ, zero, suc, _+_}
+use Prim.Native.Nat.{ℕ, zero, suc}
 use native.Mathlib.Omega.{arith}
 use mathlib.Core.Path.{_≡_, refl, sym, ap, subst}
 use mathlib.Core.Logic.{_⊎_, inl, inr, ⊎-elim, ⊎-map}
@@ -11,11 +11,9 @@ use lib.Dec.{eqb, ltb}
 use borrow.Author.Tests.{ltb-true, eqb-true, eq-eqb, ne-eqb}
 use Rattle.model.specs.Lists.{_∈_, filter, ascends}
 use Rattle.model.specs.Store.{Store}
-use Rattle.model.specs.Pattern.{Pattern, places, tripleAt}
+use Rattle.model.specs.Pattern.{Pattern, places}
 use Rattle.model.specs.Plan.{placesOf}
-use Rattle.model.specs.Planner.{chooseTable, isJoined, isFixed, termCount, chosenRows, beats, orElse, competitors, bestOf, without, pick, order, planned, termsAt, Competes, Precedes}
-use Rattle.model.specs.declared.pattern.Position.{Position}
-use Rattle.model.specs.declared.pattern.Position.the-variants.{Term, Var}
+use Rattle.model.specs.Planner.{chooseTable, isJoined, termCount, chosenRows, beats, orElse, competitors, bestOf, without, pick, order, planned, Competes, Precedes}
 use Rattle.model.proofs.Booleans.{not-both, to-false}
 use Rattle.model.proofs.Membership.{no-element, at-place, from-filter, into-filter, filter-all}
 use Rattle.model.proofs.Order.{numbers, first-before, ascends-tail, ascends-filter}
@@ -34,23 +32,6 @@ length-without {i} (x ∷ xs) e (List·Memᴰ·head q) =
 length-without {i} (x ∷ xs) e (List·Memᴰ·tail m) =
     let h = ltb-true x i (first-before ltb numbers x xs e m) in
     rw (ne-eqb x i (omega arith)) (ap suc (length-without xs (ascends-tail ltb numbers x xs e) m))
-
--- ---- terms
-
-pub count-terms : (pattern : Pattern) (taken : List ℕ) (i : ℕ)
-    → let q = tripleAt pattern i in
-    termCount pattern taken i ≡ termsAt (q .subject) + (termsAt (q .predicate) + termsAt (q .object))
-unfolding termCount
-count-terms pattern taken i =
-    let q = tripleAt pattern i in
-    let a = one-more (q .subject) (q .predicate ∷ q .object ∷ []) in
-    let b = one-more (q .predicate) (q .object ∷ []) in
-    let c = one-more (q .object) [] in
-    omega arith
-  where
-    one-more : (x : Position) (xs : List Position) → length (filter isFixed (x ∷ xs)) ≡ termsAt x + length (filter isFixed xs)
-    one-more (Term t) xs = omega arith
-    one-more (Var v) xs = omega arith
 
 -- ---- what is said
 

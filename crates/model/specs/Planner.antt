@@ -47,9 +47,17 @@ abbrev pub isFixed : Position → Bool
 isFixed (Term t) = true
 isFixed (Var v) = false
 
+-- the variable at a position is met: it stands in a place taken
+abbrev pub isMet : Pattern → List ℕ → Position → Bool
+isMet pattern taken x = any (λ j. any (sameVariable x) (positions (tripleAt pattern j))) taken
+
+-- S-16: "a variable met in an earlier step now counts like a term"
+abbrev pub countsAsTerm : Pattern → List ℕ → Position → Bool
+countsAsTerm pattern taken x = isFixed x || isMet pattern taken x
+
 -- the terms among the three positions of place i, when some places are taken
 unfoldable pub termCount : Pattern → List ℕ → ℕ → ℕ
-termCount pattern taken i = length (filter isFixed (positions (tripleAt pattern i)))
+termCount pattern taken i = length (filter (countsAsTerm pattern taken) (positions (tripleAt pattern i)))
 
 -- the rows of the table chosen for place i
 unfoldable pub chosenRows : Store → Pattern → ℕ → ℕ
@@ -95,10 +103,15 @@ planned store pattern =
 
 -- ---- the order, in words
 
--- a position is one term or none
+-- a position is one written term or none
 abbrev pub termsAt : Position → ℕ
 termsAt (Term t) = 1
 termsAt (Var v) = 0
+
+-- a position counts: it is a term, or its variable stands in a place taken
+abbrev pub CountsAsTerm : Pattern → List ℕ → Position → Type 0
+CountsAsTerm pattern taken x =
+    ((t : ℕ) × (x ≡ Term t)) ⊎ ((v : ℕ) × (x ≡ Var v) × ((j : ℕ) × (j ∈ taken) × (Var v ∈ positions (tripleAt pattern j))))
 
 -- while some remaining place shares a variable with those taken, only such ones compete; else all do
 abbrev pub Competes : Pattern → List ℕ → List ℕ → ℕ → Type 0

@@ -5,50 +5,37 @@ use mathlib.Core.Path.{_≡_, refl, sym, ap, _∙_}
 use mathlib.Core.Bool.{Bool, true, false, _&&_, _||_, not, or-false}
 use mathlib.Core.List.{List, [], _∷_, _++_, map, append-nil, map-append, List·Memᴰ·head, Memᴰ·append-left, Memᴰ·append-right, Memᴰ·map}
 use lib.ListN.{length, getD, set, length-append, length-map}
-use lib.Seq.{append-snoc, getD-set-same, getD-set-other}
+use lib.Seq.{append-snoc}
 use lib.Dec.{eqb}
-use borrow.Author.Count.{below-more}
 use Rattle.model.specs.Lists.{_∈_, filter, any, below}
 use Rattle.model.specs.Store.{Store}
-use Rattle.model.specs.Pattern.{Pattern, mostTriplePatterns, positions, places, tripleAt}
+use Rattle.model.specs.Pattern.{Pattern, mostTriplePatterns, places}
 use Rattle.model.specs.Plan.{Step, placesOf}
-use Rattle.model.specs.Planner.{chooseTable, shareVariable, isJoined, isFixed, chosenRows, without, pick, order, planned}
+use Rattle.model.specs.Planner.{chooseTable, isJoined, termCount, chosenRows, without, pick, order, planned}
 use Rattle.model.specs.Calls.{planNumbers}
 use Rattle.model.specs.declared.plan.Plan.{Plan as PlanNumbers}
 use Rattle.model.proofs.Membership.{filter-all, any-append, filter-same, filter-filter}
 use Rattle.model.proofs.Below.{from-below}
 use Rattle.model.proofs.Ordering.{from-ordered, ordered}
 use Rattle.choosing.specs.Choices.{TablesChosen}
-use Rattle.planning.specs.Flags.{pickBy}
+use Rattle.ordering.specs.Flags.{pickBy}
 use Rattle.plans.proofs.PlanReading.{step-written}
-use Rattle.planning.proofs.Picking.{picked}
+use Rattle.ordering.proofs.MetNotes.{set-more}
+use Rattle.ordering.proofs.Picking.{picked}
 
 -- ---- the tables
 
--- one number more is set behind those that are right
-set-more : (f : ℕ → ℕ) (xs : List ℕ) {i x : ℕ} → ((k : ℕ) → k < i → getD xs k 0 ≡ f k) → i < length xs → x ≡ f i
-    → (k : ℕ) → k < i + 1 → getD (set xs i x) k 0 ≡ f k
-set-more f xs {i} {x} before inside e =
-    below-more (λ k. getD (set xs i x) k 0 ≡ f k) i (λ k h. getD-set-other xs i k x 0 (omega arith) ∙ before k h)
-    (getD-set-same xs i x 0 inside ∙ e)
-
 module _ (store : Store) (pattern : Pattern) where
-  pub none-chosen : (choices rows terms : List ℕ) → TablesChosen store pattern 0 choices rows terms
-  none-chosen choices rows terms = record {
-    choice = λ i h. absurd (omega arith);
-    row-count = λ i h. absurd (omega arith);
-    term-count = λ i h. absurd (omega arith);
-  }
+  pub none-chosen : (choices rows : List ℕ) → TablesChosen store pattern 0 choices rows
+  none-chosen choices rows = record { choice = λ i h. absurd (omega arith); row-count = λ i h. absurd (omega arith) }
 
   -- the table of one place more
-  pub chosen-more : {i c r t : ℕ} {choices rows terms : List ℕ} → TablesChosen store pattern i choices rows terms
-      → i < length choices → i < length rows → i < length terms
-      → c ≡ chooseTable store pattern i → r ≡ chosenRows store pattern i → t ≡ length (filter isFixed (positions (tripleAt pattern i)))
-      → TablesChosen store pattern (i + 1) (set choices i c) (set rows i r) (set terms i t)
-  chosen-more {choices = choices} {rows} {terms} v h k l p q s = record {
-    choice = set-more (chooseTable store pattern) choices (v .choice) h p;
-    row-count = set-more (chosenRows store pattern) rows (v .row-count) k q;
-    term-count = set-more (λ j. length (filter isFixed (positions (tripleAt pattern j)))) terms (v .term-count) l s;
+  pub chosen-more : {i c r : ℕ} {choices rows : List ℕ} → TablesChosen store pattern i choices rows
+      → i < length choices → i < length rows → c ≡ chooseTable store pattern i → r ≡ chosenRows store pattern i
+      → TablesChosen store pattern (i + 1) (set choices i c) (set rows i r)
+  chosen-more {choices = choices} {rows} v h k p q = record {
+    choice = set-more (chooseTable store pattern) choices 0 (v .choice) h p;
+    row-count = set-more (chosenRows store pattern) rows 0 (v .row-count) k q;
   }
 
 -- ---- the places that are left
@@ -69,14 +56,6 @@ left-less n i taken =
 
     same : (j : ℕ) → (not (any (eqb j) taken) && not (eqb j i)) ≡ not (any (eqb j) (taken ++ i ∷ []))
     same j = rw (any-append (eqb j) taken (i ∷ []), or-false) (not-or (any (eqb j) taken) (eqb j i))
-
--- with one place more taken, those that share a variable with it are joined too
-pub joins-more : (pattern : Pattern) (taken : List ℕ) (i j : ℕ)
-    → (isJoined pattern taken j || shareVariable (tripleAt pattern j) (tripleAt pattern i)) ≡ isJoined pattern (taken ++ i ∷ []) j
-unfolding isJoined
-joins-more pattern taken i j =
-    let shares : ℕ → Bool = λ k. shareVariable (tripleAt pattern j) (tripleAt pattern k) in
-    sym (any-append shares taken (i ∷ []) ∙ ap (λ b. any shares taken || b) (or-false (shares i)))
 
 -- ---- the order
 
@@ -118,12 +97,13 @@ module _ (store : Store) (pattern : Pattern) where
       }
 
   -- by the notes of each place the code finds the pick, which is the next place
-  pub begun-more : (taken : List ℕ) (noted joined : List Bool) {n i : ℕ} {choices rows terms : List ℕ}
-      → Begun store pattern taken → length pattern ≡ n → length taken < n → TablesChosen store pattern n choices rows terms
+  pub begun-more : (taken : List ℕ) (noted joined : List Bool) (terms : List ℕ) {n i : ℕ} {choices rows : List ℕ}
+      → Begun store pattern taken → length pattern ≡ n → length taken < n → TablesChosen store pattern n choices rows
       → ((j : ℕ) → j < n → getD noted j false ≡ any (eqb j) taken) → ((j : ℕ) → j < n → getD joined j false ≡ isJoined pattern taken j)
+      → ((j : ℕ) → j < n → getD terms j 0 ≡ termCount pattern taken j)
       → i ≡ pickBy n noted joined terms rows → Begun store pattern (taken ++ i ∷ [])
-  begun-more taken noted joined {n} {rows = rows} {terms} b size h tables isTaken joins found =
-      rw (found, picked store pattern n taken noted joined terms rows isTaken joins (tables .row-count) (tables .term-count), ← size)
+  begun-more taken noted joined terms {n} {rows = rows} b size h tables isTaken joins counts found =
+      rw (found, picked store pattern n taken noted joined terms rows isTaken joins (tables .row-count) counts, ← size)
       (begun-picked taken b (omega arith))
 
   -- the places taken are places of the pattern

@@ -1,3 +1,2 @@
 // The planner: the table of each triple pattern, and their order.
-pub mod ordering;
 pub mod planner;

@@ -1,11 +1,7 @@
 ghost use mathlib.Core.Path.{_≡_};
 ghost use Prim.Native.Nat.{_<_, _≤_};
-ghost use mathlib.Core.List.{[], _∷_};
-ghost use lib.ListN.{length};
-ghost use Rattle.model.specs.Lists.{any, filter};
-ghost use Rattle.model.specs.Pattern.{positions, variablesWith, mostVariables, positionAt, sameVariable};
+ghost use Rattle.model.specs.Pattern.{variablesWith, mostVariables, positionAt, sameVariable};
 ghost use Rattle.model.specs.PatternFile.{positionOf, askPosition};
-ghost use Rattle.model.specs.Planner.{shareVariable, isFixed};
 ghost use Rattle.model.specs.declared.pattern.Position.the-variants.{Var};
 ghost use Rattle.tables.specs.Columns.{columnOf};
 ghost use Rattle.positions.specs.Replies.{replied};
@@ -85,64 +81,4 @@ pub fn same_variable(x: Position, y: Position) -> bool
         },
         Position::Var(v) => is_variable(y, v),
     }
-}
-
-// One of the three is true.
-fn any_of(a: bool, b: bool, c: bool) -> bool
-    ensures { λ r. ⌜ r ≡ any (λ x. x) (a ∷ b ∷ c ∷ []) ⌝ }
-{
-    if a {
-        return true;
-    }
-    if b {
-        return true;
-    }
-    c
-}
-
-// A position of q holds the same variable as x.
-fn has_variable(q: TriplePattern, x: Position) -> bool
-    ensures { λ r. ⌜ r ≡ any (sameVariable x) (positions q) ⌝ }
-{
-    let subject = q.subject;
-    let predicate = q.predicate;
-    let object = q.object;
-    any_of(
-        same_variable(x, subject),
-        same_variable(x, predicate),
-        same_variable(x, object),
-    )
-}
-
-pub fn share_variable(q: TriplePattern, r: TriplePattern) -> bool
-    ensures { λ b. ⌜ b ≡ shareVariable q r ⌝ }
-{
-    let subject = q.subject;
-    let predicate = q.predicate;
-    let object = q.object;
-    any_of(
-        has_variable(r, subject),
-        has_variable(r, predicate),
-        has_variable(r, object),
-    )
-}
-
-// 1 for a term, 0 for a variable.
-fn fixed(x: Position) -> usize
-    ensures { λ r. ⌜ (r ≡ length (filter isFixed (x ∷ []))) × (r ≤ 1) ⌝ }
-{
-    match x {
-        Position::Term(_) => 1,
-        Position::Var(_) => 0,
-    }
-}
-
-// The terms among the three positions.
-pub fn term_count(q: TriplePattern) -> usize
-    ensures { λ r. ⌜ r ≡ length (filter isFixed (positions q)) ⌝ }
-{
-    let subject = q.subject;
-    let predicate = q.predicate;
-    let object = q.object;
-    fixed(subject) + fixed(predicate) + fixed(object)
 }

@@ -20,7 +20,7 @@ use bytes::words_into;
 use row_cases::try_chain;
 use store_cases::try_changed;
 
-const MOST_CASES: usize = 5000;
+const MOST_CASES: usize = 8000;
 
 const HEADER_BYTES: usize = 15;
 

@@ -5,6 +5,7 @@ use Rattle.model.specs.Lists.{concatMap}
 use Rattle.model.proofs.Cases.{Hold, cases, worked}
 use Rattle.model.proofs.AnswerCases.{refusedSites, siteRefusal, sites-refused, buildCases, builds-worked, refusedChecks, checkRefusals, checks-refused, refusedPlans, planRefusals, plans-refused, runCases, runs-worked, shopJoined, met, first-step, plannerCases, plans-worked, widenedCases, widened-worked, printedCases, printed-worked}
 use Rattle.model.proofs.SharedObjectCases.{sharedObjectCases, shared-objects-worked}
+use Rattle.model.proofs.MetVariableCases.{metVariableCases, met-variables-worked}
 
 -- ==== The worked shop: cases (a) to (j)
 
@@ -47,6 +48,14 @@ Shared-Objects-Hold = Hold sharedObjectCases
 
 pub shared-objects-hold : Shared-Objects-Hold
 shared-objects-hold = shared-objects-worked
+
+-- ==== S-16: a ring whose closing triple pattern goes before one that is lower; 01's own plan stands in cases-hold
+
+abbrev pub Met-Variables-Hold : Type 0
+Met-Variables-Hold = Hold metVariableCases
+
+pub met-variables-hold : Met-Variables-Hold
+met-variables-hold = met-variables-worked
 
 -- ==== A step keeps each partial solution with each row of its table that agrees: choice 5 at place 0 of the shop's check gives the two
 -- rows of the reduced table, and not the three of VP

@@ -3,7 +3,7 @@ use Prim.Native.Nat.{ℕ, _+_, _-_, _*_, _≤_, _<_}
 use native.Mathlib.Numerals.{one-add}
 use mathlib.Core.Path.{_≡_, refl}
 use mathlib.Core.Logic.{_⊎_, ⊎-elim, _↔_}
-use mathlib.Core.Bool.{true, false}
+use mathlib.Core.Bool.{true, false, cond}
 use mathlib.Core.List.{List, [], _∷_, _++_, map, List·Memᴰ·tail}
 use lib.ListN.{length, replicate}
 use Rattle.model.specs.Lists.{_∈_, concatMap}
@@ -12,15 +12,17 @@ use Rattle.model.specs.Tables.{subject, object, vp, at, Kind, semiJoin, 
 use Rattle.model.specs.Store.{Store}
 use Rattle.model.specs.Pattern.{Pattern, positions, tripleAt, positionAt, fullTable}
 use Rattle.model.specs.Plan.{Plan, placesOf, qualifies, reducedTable, chosenTable, mayChoose, Qualifies, StoredChoice, isProper}
-use Rattle.model.specs.Planner.{tableRows, chooseTable, isJoined, termCount, chosenRows, planned, termsAt, Competes, Precedes}
+use Rattle.model.specs.Planner.{tableRows, chooseTable, isJoined, countsAsTerm, termCount, chosenRows, planned, Competes, Precedes}
 use Rattle.model.specs.Calls.{planNumbers}
+use Rattle.model.specs.declared.pattern.Position.{Position}
 use Rattle.model.specs.declared.pattern.Position.the-variants.{Term, Var}
 use Rattle.model.specs.declared.pattern.TriplePattern.{TriplePattern}
 use Rattle.model.proofs.Booleans.{not-both}
 use Rattle.model.proofs.Places.{qualifying, qualified}
 use Rattle.model.proofs.MayChoose.{chosen-reduced, may-choose, may-be-chosen, joined-exactly}
 use Rattle.model.proofs.Choosing.{choice-order, chosen-table}
-use Rattle.model.proofs.Ordering.{count-terms, planned-choices, picks}
+use Rattle.model.proofs.MetVariables.{count-terms}
+use Rattle.model.proofs.Ordering.{planned-choices, picks}
 use Rattle.model.proofs.ProperPlan.{planned-proper}
 use Rattle.model.proofs.ChainRows.{steps-padded}
 
@@ -107,12 +109,14 @@ pub rows-counted : Rows-Counted
 unfolding tableRows chosenRows
 rows-counted store pattern i = ((λ c. refl), refl)
 
--- by terms those among the three positions, whatever is taken
+-- by terms the positions among the three that count as terms when some places are taken, each for itself (which do: counts-as-term, of
+-- MetVariables)
 abbrev pub Terms-Counted : Type 0
 Terms-Counted =
     (pattern : Pattern) (taken : List ℕ) (i : ℕ)
     → let q = tripleAt pattern i in
-    termCount pattern taken i ≡ termsAt (q .subject) + (termsAt (q .predicate) + termsAt (q .object))
+    let one : Position → ℕ = λ x. cond (countsAsTerm pattern taken x) 1 0 in
+    termCount pattern taken i ≡ one (q .subject) + (one (q .predicate) + one (q .object))
 
 pub terms-counted : Terms-Counted
 terms-counted = count-terms

@@ -7,10 +7,10 @@ use Rattle.vectors.proofs.main.Statement.{statement}
 use Rattle.vectors.proofs.main.Tie as tie
 
 abbrev Inv-loop : tie.InvT-loop
-Inv-loop buffer size held₀ at₀ counter₀ held at counter = (counter ≤ 5000) × (length held ≡ 4096)
+Inv-loop buffer size held₀ at₀ counter₀ held at counter = (counter ≤ 8000) × (length held ≡ 4096)
 
 abbrev μ-loop : tie.MeasureT-loop
-μ-loop buffer size held₀ at₀ counter₀ held at counter = 5000 - counter
+μ-loop buffer size held₀ at₀ counter₀ held at counter = 8000 - counter
 
 slice-aggregate-read-full : tie.Need-slice-aggregate-read-full Inv-loop μ-loop
 slice-aggregate-read-full c = search needs

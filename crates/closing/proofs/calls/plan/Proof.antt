@@ -21,7 +21,7 @@ returns c =
 plan-pattern-requires : tie.Need-plan-pattern-requires
 plan-pattern-requires c κs =
     let (validated, holds, accepted, numbers) = check-given _ _ _ (c .before .checked .ensures) (c .if1 .left) in
-    (validated, holds)
+    (validated, holds, accepted)
 
 returns-2 : tie.Need-returns-2
 unfolding planUnder

@@ -1,68 +1,81 @@
--- The places are picked one after the other. The invariant: the order begins with those picked, their steps stand in the array, and each place has its two notes.
+-- The places are picked one after the other. The invariant: the order begins with those picked, their steps stand in the array, it is noted
+-- which are taken, and the cells say which variables are met.
 use Prim.Native.Nat.{ℕ, _-_, _<_}
 use native.Mathlib.Nat.{le-trans}
 use native.Mathlib.Omega.{arith}
-use mathlib.Core.Path.{_≡_, refl, _∙_}
+use mathlib.Core.Path.{_≡_, refl, sym, ap, _∙_}
 use mathlib.Core.Bool.{Bool, false}
 use mathlib.Core.List.{List, [], _∷_, _++_, map}
 use lib.ListN.{length, getD, getD-replicate, length-set, length-append}
 use lib.Dec.{eqb}
 use borrow.Author.Needs.{needs}
-use Rattle.model.specs.Lists.{any}
+use Rattle.model.specs.Lists.{any, concatMap}
 use Rattle.model.specs.Store.{decoded}
-use Rattle.model.specs.Pattern.{mostTriplePatterns}
-use Rattle.model.specs.Planner.{isJoined}
+use Rattle.model.specs.Pattern.{mostTriplePatterns, positions}
 use Rattle.model.specs.Calls.{planNumbers}
 use Rattle.model.proofs.Choosing.{chosen-table}
 use Rattle.positions.specs.Members.{patternIn}
 use Rattle.positions.specs.declared.pattern.Pattern.{Pattern as Members}
-use Rattle.positions.proofs.MemberLaws.{pattern-length}
+use Rattle.positions.proofs.MemberLaws.{pattern-length, triple-member}
 use Rattle.plans.proofs.PlanReading.{place-noted}
 use Rattle.model.proofs.Places.{choice-small}
-use Rattle.planning.proofs.OrderSteps.{joins-more, Begun, stepAt, begun-none, begun-more, begun-inside, place-written, plan-written}
+use Rattle.ordering.specs.Met.{HaveCells, meetingAll}
+use Rattle.ordering.proofs.MetNotes.{accepted-cells, place-cells, MetNoted, met-none, met-more, noted-joined, noted-terms}
+use Rattle.planning.proofs.OrderSteps.{Begun, stepAt, begun-none, begun-more, begun-inside, place-written, plan-written}
 use Rattle.planning.proofs.planner.plan_pattern.Statement.{statement}
 use Rattle.planning.proofs.planner.plan_pattern.Tie as tie
 
 -- what n picks leave
-record PlacesPicked (w : List ℕ) (pattern : Members) (steps : List ℕ) (taken joined : List Bool) (n : ℕ) : Type 0 where
+record PlacesPicked (w : List ℕ) (pattern : Members) (steps : List ℕ) (taken met joined : List Bool) (terms : List ℕ) (n : ℕ) : Type 0 where
   done : List ℕ
   count : length done ≡ n
   begun : Begun (decoded w) (patternIn pattern) done
   written : steps ≡ planNumbers (map (stepAt (decoded w) (patternIn pattern)) done) .steps
   taken-size : length taken ≡ mostTriplePatterns
   noted : (i : ℕ) → i < pattern .count → getD taken i false ≡ any (eqb i) done
+  met-noted : MetNoted (patternIn pattern) done met
   joined-size : length joined ≡ mostTriplePatterns
-  joins : (i : ℕ) → i < pattern .count → getD joined i false ≡ isJoined (patternIn pattern) done i
+  terms-size : length terms ≡ mostTriplePatterns
 
 abbrev Inv-loop : tie.InvT-loop
-Inv-loop w pattern choices rows terms steps₀ taken₀ joined₀ n₀ n-end steps taken joined n = PlacesPicked w pattern steps taken joined n
+Inv-loop w pattern choices rows steps₀ taken₀ met₀ joined₀ terms₀ n₀ n-end steps taken met joined terms n =
+    PlacesPicked w pattern steps taken met joined terms n
 
 abbrev μ-loop : tie.MeasureT-loop
-μ-loop w pattern choices rows terms steps₀ taken₀ joined₀ n₀ n-end steps taken joined n = n-end - n
+μ-loop w pattern choices rows steps₀ taken₀ met₀ joined₀ terms₀ n₀ n-end steps taken met joined terms n = n-end - n
+
+abbrev noted : tie.After-pick Inv-loop μ-loop → tie.After-note-places Inv-loop μ-loop
+noted c = c .before .before .before .before .before
 
 abbrev head : tie.After-pick Inv-loop μ-loop → tie.At-loop Inv-loop μ-loop
-head c = c .before .before .before .before .before .before
+head c = noted c .before .before .before .before .before
 
 abbrev start : tie.At-loop Inv-loop μ-loop → tie.Start Inv-loop μ-loop
-start l = l .before .before .before .before .before .before
+start l = l .before .before .before .before .before
+
+-- the variables of the pattern have cells
+cells : (s : tie.Start Inv-loop μ-loop) → HaveCells (concatMap positions (patternIn (s .args .t2)))
+cells s = accepted-cells _ _ (s .pre .2)
 
 -- the place found is the planner's pick, so the order goes on with it
 begun : (c : tie.After-pick Inv-loop μ-loop) → let g = start (head c) .args in
-    Begun (decoded (g .w .now)) (patternIn (g .pattern)) (head c .loop .inv .done ++ c .pick .result ∷ [])
+    Begun (decoded (g .w .now)) (patternIn (g .t2)) (head c .loop .inv .done ++ c .pick .result ∷ [])
 begun c =
     let v = head c .loop .inv in
-    begun-more _ _ (v .done) _ _ (v .begun) (pattern-length (start (head c) .pre .1 .counted)) (omega arith)
-    (head c .before .choose-tables .ensures) (v .noted) (v .joins) (c .pick .ensures)
+    let size = pattern-length (start (head c) .pre .1 .counted) in
+    let notes = noted c .note-places .ensures .0 in
+    begun-more _ _ (v .done) _ _ _ (v .begun) size (omega arith) (head c .before .choose-tables .ensures) (v .noted)
+    (noted-joined _ (v .done) (v .met-noted) (cells (start (head c))) size notes)
+    (noted-terms _ (v .done) (v .met-noted) (cells (start (head c))) size notes) (c .pick .ensures)
 
 -- it is a place of the pattern
-inside : (c : tie.After-pick Inv-loop μ-loop) → c .pick .result < start (head c) .args .pattern .count
+inside : (c : tie.After-pick Inv-loop μ-loop) → c .pick .result < start (head c) .args .t2 .count
 inside c = rw (pattern-length (start (head c) .pre .1 .counted)) at (begun-inside _ _ (head c .loop .inv .done) _ (begun c))
 
 choose-tables-requires : tie.Need-choose-tables-requires Inv-loop μ-loop
 choose-tables-requires c κs = search needs
 
 loop-holds : tie.Need-loop-holds Inv-loop μ-loop
-unfolding isJoined
 loop-holds c = record {
   done = [];
   count = refl;
@@ -70,9 +83,16 @@ loop-holds c = record {
   written = refl;
   taken-size = refl;
   noted = λ i h. getD-replicate mostTriplePatterns i false false (omega arith);
+  met-noted = met-none _;
   joined-size = refl;
-  joins = λ i h. getD-replicate mostTriplePatterns i false false (omega arith);
+  terms-size = refl;
 }
+
+note-places-requires : tie.Need-note-places-requires Inv-loop μ-loop
+note-places-requires c κs =
+    let l = c .before .before .before .before in
+    let s = start l in
+    ((s .pre .1 .counted, cells s), (omega (arith, l .loop .inv .joined-size), omega (arith, l .loop .inv .terms-size)))
 
 pick-requires : tie.Need-pick-requires Inv-loop μ-loop
 pick-requires c κs = search needs
@@ -110,10 +130,17 @@ array-write-steps-2 c = omega arith
 array-write-taken : tie.Need-array-write-taken Inv-loop μ-loop
 array-write-taken c = omega (arith, inside c)
 
-mark-joined-requires : tie.Need-mark-joined-requires Inv-loop μ-loop
-mark-joined-requires c κs =
-    let l = head (c .before) in
-    (start l .pre .1 .counted, inside (c .before), omega (arith, l .loop .inv .joined-size))
+mul-member : tie.Need-mul-member Inv-loop μ-loop
+mul-member c = omega (arith, inside c)
+
+element-copy-out-member : tie.Need-element-copy-out-member Inv-loop μ-loop
+element-copy-out-member c = omega (arith, inside c)
+
+meet-variables-requires : tie.Need-meet-variables-requires Inv-loop μ-loop
+meet-variables-requires c κs =
+    let p = c .before .before in
+    let s = start (head p) in
+    place-cells (s .args .t2) _ (omega (arith, inside p)) (s .pre .1 .counted) (cells s)
 
 add-n : tie.Need-add-n Inv-loop μ-loop
 add-n c = omega arith
@@ -123,11 +150,11 @@ loop-less c = omega arith
 
 loop-again : tie.Need-loop-again Inv-loop μ-loop
 loop-again c =
-    let p = c .before .before in
+    let p = c .before .before .before in
     let v = head p .loop .inv in
+    let pattern = start (head p) .args .t2 in
     let few = start (head p) .pre .1 .counted .few in
-    let more = p .before .before .before .before .before .loop-test .taken in
-    let marked = c .mark-joined .ensures in record {
+    let sizes = noted p .note-places .ensures .1 in record {
       done = v .done ++ p .pick .result ∷ [];
       count = rw length-append (omega arith);
       begun = begun p;
@@ -135,8 +162,11 @@ loop-again c =
           place-written _ _ (v .done) _ (v .written) (v .count) (omega arith) (head p .before .choose-tables .ensures .choice _ (inside p));
       taken-size = simp length-set (v .taken-size);
       noted = λ j h. place-noted (head p .loop .taken) (v .done) _ (omega (arith, inside p)) j (v .noted j h);
-      joined-size = marked .same-length ∙ v .joined-size;
-      joins = λ j h. marked .marks j h ∙ rw (v .joins j h) (joins-more _ (v .done) _ j);
+      met-noted =
+          rw (c .meet-variables .ensures ∙ ap (λ q. meetingAll (head p .loop .met) (positions q)) (sym (triple-member pattern (p .pick .result) (inside p))))
+          (met-more _ (v .done) (v .met-noted) _);
+      joined-size = sizes .0 ∙ v .joined-size;
+      terms-size = sizes .1 ∙ v .terms-size;
     }
 
 returns : tie.Need-returns Inv-loop μ-loop
@@ -152,6 +182,7 @@ plan-pattern-spec =
     μ-loop
     choose-tables-requires
     loop-holds
+    note-places-requires
     pick-requires
     cast-steps
     mul-steps
@@ -163,7 +194,9 @@ plan-pattern-spec =
     add-steps
     array-write-steps-2
     array-write-taken
-    mark-joined-requires
+    mul-member
+    element-copy-out-member
+    meet-variables-requires
     add-n
     loop-less
     loop-again

@@ -1,2 +1,0 @@
--- What the functions of this crate are held to, in terms of the definitions.
-pub mod Flags
