@@ -47,9 +47,9 @@ module _ (pattern : Pattern) (taken : List ℕ) where
 
   -- ---- what counts as a term
 
-  pub counts-exactly : (x : Position) → (countsAsTerm pattern taken x ≡ true) ↔ CountsAsTerm pattern taken x
-  counts-exactly (Term t) = ((λ h. inl (t, refl)), λ c. refl)
-  counts-exactly (Var v) = ((λ h. inr (met-exactly (Var v) .0 h)), into)
+  pub counted-exactly : (x : Position) → (countsAsTerm pattern taken x ≡ true) ↔ CountsAsTerm pattern taken x
+  counted-exactly (Term t) = ((λ h. inl (t, refl)), λ c. refl)
+  counted-exactly (Var v) = ((λ h. inr (met-exactly (Var v) .0 h)), into)
     where
       into : CountsAsTerm pattern taken (Var v) → countsAsTerm pattern taken (Var v) ≡ true
       into (inl (t, e)) = cc

@@ -5,11 +5,18 @@ use native.Mathlib.Omega.{arith}
 use mathlib.Core.Path.{_≡_, refl, sym, ap, _∙_}
 use mathlib.Core.List.{List, [], _∷_, _++_, append-assoc}
 use lib.ListN.{length, getD, take, drop, set, take-append-drop}
-use lib.Seq.{length-take-le, take-set-le, drop-set-lt, drop-set-add, getD-set-other, sets, sets-eq}
+use lib.Seq.{length-take-le, take-set-le, drop-set-lt, drop-set-add, getD-set-same, getD-set-other, sets, sets-eq}
+use borrow.Author.Count.{below-more}
 use Rattle.model.specs.Calls.{over}
 use Rattle.model.proofs.Blocks.{Block}
 
 module _ {A : Type 0} where
+  -- one element more is set behind those that are right
+  pub set-more : (f : ℕ → A) (l : List A) (d : A) {i : ℕ} {x : A} → ((k : ℕ) → k < i → getD l k d ≡ f k) → i < length l → x ≡ f i
+      → (k : ℕ) → k < i + 1 → getD (set l i x) k d ≡ f k
+  set-more f l d {i} {x} before inside e =
+      below-more (λ k. getD (set l i x) k d ≡ f k) i (λ k h. getD-set-other l i k x d (omega arith) ∙ before k h) (getD-set-same l i x d inside ∙ e)
+
   pub sets-append : (l : List A) (i : ℕ) (xs ys : List A) → sets l i (xs ++ ys) ≡ sets (sets l i xs) (i + length xs) ys
   sets-append l i [] ys = rw add-zero
   sets-append l i (x ∷ xs) ys =

@@ -7,7 +7,6 @@ use mathlib.Core.List.{List, [], _∷_, _++_, List·Memᴰ·head, List·Memᴰ·
 use lib.ListN.{length, getD, getD-replicate, set, length-set, replicate}
 use lib.Seq.{getD-set-same, getD-set-other}
 use lib.Dec.{eqb}
-use borrow.Author.Count.{below-more}
 use borrow.Author.Tests.{eqb-true, eqb-false}
 use Rattle.model.specs.Lists.{_∈_, filter, any, concatMap}
 use Rattle.model.specs.Site.{Site}
@@ -17,19 +16,13 @@ use Rattle.model.specs.declared.pattern.Position.{Position}
 use Rattle.model.specs.declared.pattern.Position.the-variants.{Term, Var}
 use Rattle.model.proofs.Booleans.{bool-ext}
 use Rattle.model.proofs.Membership.{at-place, any-append, any-same, filter-same, into-concatMap, from-concatMap}
+use Rattle.model.proofs.Setting.{set-more}
 use Rattle.model.proofs.Patterns.{width-limit, variable-below}
 use Rattle.model.proofs.MetVariables.{met-exactly, joined-met}
 use Rattle.positions.specs.Members.{memberAt, patternIn, PatternCells}
 use Rattle.positions.specs.declared.pattern.Pattern.{Pattern as Members}
 use Rattle.positions.proofs.MemberLaws.{pattern-length, triple-member}
 use Rattle.ordering.specs.Met.{HaveCells, metBy, countsBy, meeting, meetingAll, PlacesNoted}
-
--- one value more is set behind those that are right
-pub set-more : {A : Type 0} (f : ℕ → A) (xs : List A) (d : A) {i : ℕ} {x : A} → ((k : ℕ) → k < i → getD xs k d ≡ f k) → i < length xs → x ≡ f i
-    → (k : ℕ) → k < i + 1 → getD (set xs i x) k d ≡ f k
-set-more f xs d {i} {x} before inside e =
-    below-more (λ k. getD (set xs i x) k d ≡ f k) i (λ k h. getD-set-other xs i k x d (omega arith) ∙ before k h)
-    (getD-set-same xs i x d inside ∙ e)
 
 -- ---- cells
 
@@ -63,7 +56,7 @@ module _ (met : List Bool) where
   size-met (Term t) = refl
   size-met (Var w) = length-set met w true
 
-pub size-all : (met : List Bool) (xs : List Position) → length (meetingAll met xs) ≡ length met
+size-all : (met : List Bool) (xs : List Position) → length (meetingAll met xs) ≡ length met
 size-all met [] = refl
 size-all met (x ∷ xs) = size-all (meeting met x) xs ∙ size-met met x
 

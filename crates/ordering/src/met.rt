@@ -113,7 +113,7 @@ fn meet(x: Position, met: &mut [bool; 8])
     }
 }
 
-// The variables of a triple pattern are.
+// So are those of a triple pattern.
 pub fn meet_variables(q: TriplePattern, met: &mut [bool; 8])
     requires { ⌜ HaveCells (positions q) ⌝ }
     ensures { λ _. ⌜ now (met .exit) ≡ meetingAll (now (met .entry)) (positions q) ⌝ }

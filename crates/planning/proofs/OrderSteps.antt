@@ -16,11 +16,11 @@ use Rattle.model.specs.Calls.{planNumbers}
 use Rattle.model.specs.declared.plan.Plan.{Plan as PlanNumbers}
 use Rattle.model.proofs.Membership.{filter-all, any-append, filter-same, filter-filter}
 use Rattle.model.proofs.Below.{from-below}
+use Rattle.model.proofs.Setting.{set-more}
 use Rattle.model.proofs.Ordering.{from-ordered, ordered}
 use Rattle.choosing.specs.Choices.{TablesChosen}
 use Rattle.ordering.specs.Flags.{pickBy}
 use Rattle.plans.proofs.PlanReading.{step-written}
-use Rattle.ordering.proofs.MetNotes.{set-more}
 use Rattle.ordering.proofs.Picking.{picked}
 
 -- ---- the tables

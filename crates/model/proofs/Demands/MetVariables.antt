@@ -17,7 +17,7 @@ use Rattle.model.specs.Calls.{plan, rowsOutcome, run, whether}
 use Rattle.model.specs.Chain.{stepBytes}
 use Rattle.model.specs.declared.pattern.Position.{Position}
 use Rattle.model.specs.declared.pattern.Position.the-variants.{Term, Var}
-use Rattle.model.proofs.MetVariables.{counts-exactly, count-terms, count-written}
+use Rattle.model.proofs.MetVariables.{counted-exactly, count-terms, count-written}
 use Rattle.model.proofs.Patterns.{pattern-limit}
 use Rattle.model.proofs.PatternFile.{pattern-accepted}
 use Rattle.model.proofs.Success.{whether-succeeds}
@@ -32,7 +32,7 @@ abbrev pub Counts-As-Term : Type 0
 Counts-As-Term = (pattern : Pattern) (taken : List ℕ) (x : Position) → (countsAsTerm pattern taken x ≡ true) ↔ CountsAsTerm pattern taken x
 
 pub counts-as-term : Counts-As-Term
-counts-as-term = counts-exactly
+counts-as-term = counted-exactly
 
 -- each position counts, so a variable met that stands in subject and object counts 2 beside its predicate
 abbrev pub Both-Ends-Count : Type 0
