@@ -17,7 +17,7 @@ HERE = os.path.dirname(os.path.abspath(__file__))
 sys.path.insert(0, os.path.join(HERE, '..', 'tools'))
 
 import reference
-from reference import KINDS, choices, chosen_table, extended, layout, plan, qualifies, read_pattern, read_site, semi_join
+from reference import KINDS, chosen_table, extended, layout, plan, qualifies, read_pattern, read_site, semi_join
 
 ENGINE, PLAIN, BEFORE, BEST, QUERY, CHECKED = range(6)
 
@@ -107,32 +107,24 @@ def rows_read(site, check, steps):
     return read, searched
 
 
-OO = KINDS.index((1, 1))
-
-
-def choices_of_before(*place):
-    """The open choices of before there was OO, under their numbers of now."""
-    return {choice: rows for choice, rows in choices(*place).items() if choice == 0 or (choice - 1) % len(KINDS) != OO}
-
-
 def plan_of_before(words, check):
-    """What the planner chose before there was OO."""
-    with patch.object(reference, 'choices', choices_of_before):
+    """What the planner made of a check before S-16, while only written terms counted."""
+    with patch.object(reference, 'counts_as_term', lambda position, met: position[0] == 'term'):
         return plan(words, check)
 
 
-def none_by_counts(site, check, kinds):
+def none_by_counts(site, check):
     """Whether a table of the check has no rows, or one that qualifies: that is answered before a row is read."""
     tables = dict(site)
     pattern = read_pattern(tables, check)
     named = [tables[predicate] for _, (_, predicate), _ in pattern]
     return not all(named) or any(qualifies(pattern, i, j, kind) and not semi_join(p, q, kind)
-                                 for i, p in enumerate(named) for j, q in enumerate(named) for kind in kinds)
+                                 for i, p in enumerate(named) for j, q in enumerate(named) for kind in KINDS)
 
 
-def rows_of_run(site, check, planner=plan, kinds=KINDS):
+def rows_of_run(site, check, planner=plan):
     """What rows_read counts, of the planner's own plan."""
-    return (0, 0) if none_by_counts(site, check, kinds) else rows_read(site, check, planner(layout(1000, site), check))
+    return (0, 0) if none_by_counts(site, check) else rows_read(site, check, planner(layout(1000, site), check))
 
 
 # ---- text
@@ -216,14 +208,21 @@ def run_table(measured, sites):
     return table(head, rows)
 
 
-def saved_table(measured, sites):
+def places_of(planner, site, check):
+    """The order of a plan, in which the places are taken."""
+    return ' '.join(str(place) for place, _ in planner(layout(1000, site), check))
+
+
+def rings_table(measured, sites):
     rows = []
     for line in (line for line in measured if line.call == 'run'):
         site, check = files_of(line, sites)
-        (read, _), (read_before, _) = rows_of_run(site, check), rows_of_run(site, check, plan_of_before, KINDS[:OO])
-        rows.append((line.site, line.check, found_text(line.found), '{:,}'.format(read), '{:,}'.format(read_before), cell(read / read_before if read_before else None),
+        (tables, read), (tables_before, read_before) = rows_of_run(site, check), rows_of_run(site, check, plan_of_before)
+        rows.append((line.site, line.check, found_text(line.found), places_of(plan, site, check), places_of(plan_of_before, site, check), '{:,}'.format(tables),
+                     '{:,}'.format(tables_before), cell(tables / tables_before if tables_before else None), '{:,}'.format(read), '{:,}'.format(read_before),
                      timed(line, ENGINE), timed(line, BEFORE), cell(line.ratio(BEFORE))))
-    return table(('site', 'check', 'rows', 'rows of the tables', 'without OO', 'ratio', 'engine', 'before', 'engine / before'), rows)
+    return table(('site', 'check', 'rows', 'order', 'by written terms', 'rows of the tables', 'by written terms', 'ratio', 'rows read', 'by written terms', 'engine',
+                  'before', 'engine / before'), rows)
 
 
 def same_check(measured, line, call):
@@ -325,6 +324,11 @@ def shares_objects(line):
     return line.site.startswith('watched')
 
 
+def has_rings(line):
+    """Of a further site: one whose checks have a ring, which S-16 is for."""
+    return line.site.startswith('ringed')
+
+
 def best_bounds(what, measured):
     return bounds(what, [line.ratio(BEST) for line in measured if line.call not in ('build', 'whether')])
 
@@ -345,12 +349,13 @@ def check_tables(measured, sites):
     return plan_table(measured) + [''] + run_table(measured, sites) + [''] + whether_table(measured)
 
 
-def saved_text(measured, sites):
-    """The section of the sites whose predicates share objects."""
-    text = ['Further sites: shops where contacts, cameras and locks share doors. The rows of the tables of the planner\'s plan, those of each step times the',
-            'partial solutions before it, one before the first; and of the plan that it made while there were SS, OS and SO alone. Beside them the time of',
-            'the run, and by the archive of before, which is given its own store and its own plan. ' + best_bounds('Engine over best C, plan and run', measured), '']
-    return text + saved_table(measured, sites) + [''] + check_tables(measured, sites)
+def rings_text(measured, sites):
+    """The section of the checks whose variables stand in a ring."""
+    text = ['Further sites: shops whose doors lead to zones, and checks with a triple pattern all of whose variables are met before it. The order of the',
+            'planner\'s plan, the rows of its tables, those of each step times the partial solutions before it, one before the first, and how many of them a search',
+            'by a known subject leaves to read; beside each what it is of the plan by written terms alone, as before S-16. Then the time of the run, and by the',
+            'archive of before, which is given its own plan. ' + best_bounds('Engine over best C, plan and run', measured), '']
+    return text + rings_table(measured, sites) + [''] + check_tables(measured, sites)
 
 
 def sizes_table(folder, counts):
@@ -363,8 +368,9 @@ def sizes_table(folder, counts):
 
 def results(folder, commit):
     everything = [Line(text) for text in lines(folder, 'times.txt')]
-    gapped, sharing = list(filter(has_gaps, everything)), list(filter(shares_objects, everything))
-    measured = [line for line in everything if not has_gaps(line) and not shares_objects(line)]
+    further = (has_gaps, shares_objects, has_rings)
+    gapped, sharing, ringed = (list(filter(kind, everything)) for kind in further)
+    measured = [line for line in everything if not any(kind(line) for kind in further)]
     sites = inputs(folder)
     code = lines(folder, 'size.txt')[-1].split()
     counts = instructions(folder)
@@ -381,7 +387,9 @@ def results(folder, commit):
     text += ['', '## Reduced tables', ''] + reduced_table(measured) + ['', '## How cost grows with rows', '', 'The exponent of time in rows, over shops of 16 to 1,024 rows.', '']
     text += growth_table(measured) + ['', '## Columns with gaps', '', 'Further sites: the same shops with their terms numbered by first appearance, as `tools/site_text.py`',
                                       'numbers names, or scattered over the numbers of 16 bits, or of 24, which the archive of before may refuse. ' + best_bounds('Engine over best C, plan and run', gapped), '']
-    text += check_tables(gapped, sites) + ['', '## What OO saves', ''] + saved_text(sharing, sites) + ['', '## Sizes', ''] + sizes_table(folder, counts)
+    text += check_tables(gapped, sites) + ['', '## Shared doors', '', 'Further sites: shops where contacts, cameras and locks share doors, which OO is for. '
+                                           + best_bounds('Engine over best C, plan and run', sharing), '']
+    text += check_tables(sharing, sites) + ['', '## Rings', ''] + rings_text(ringed, sites) + ['', '## Sizes', ''] + sizes_table(folder, counts)
     text += ['', 'Code of the archive: {:,} bytes.'.format(int(code[0])), '', '## Agreement', '', '. '.join(lines(folder, 'agree.txt')) + '.', '']
     with open(os.path.join(HERE, 'NOTES.md')) as notes:
         text.append(notes.read())

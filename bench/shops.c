@@ -27,7 +27,7 @@ static void add_check(struct workload *workload, const char *name, uint32_t coun
             put_number(check, triple[i][column]);
 }
 
-enum { COVERS = 1, IN = 2, WATCHES = 2, STATE = 3, BATTERY = 4, LOCKS = 5, CLOSED = 40, OPEN = 41, AJAR = 42, LOW = 50, GOOD = 51 };
+enum { COVERS = 1, IN = 2, WATCHES = 2, STATE = 3, BATTERY = 4, LEADS = 4, LOCKS = 5, SEES = 5, CLOSED = 40, OPEN = 41, AJAR = 42, LOW = 50, GOOD = 51 };
 
 enum { FIRST_SENSOR = 1000, FIRST_DOOR = 3000, FIRST_ZONE = 5000 };
 
@@ -116,6 +116,23 @@ static void add_shared_door_checks(struct workload *w) {
     add_check(w, "two contacts on one door", 2, (const uint32_t[][3]){{s, covers, door}, {variable(2), covers, door}});
 }
 
+/* Checks whose variables stand in a ring: when its other triple patterns are taken, the one that closes it has no variable that is not met. */
+static void add_ring_checks(struct workload *w) {
+    const uint32_t covers = term(COVERS), in = term(IN), state = term(STATE), leads = term(LEADS), sees = term(SEES), open = term(OPEN);
+    const uint32_t a = variable(0), b = variable(1), c = variable(2), d = variable(3);
+    add_check(w, "covers and sees one door", 3, (const uint32_t[][3]){{a, covers, b}, {a, in, c}, {a, sees, b}});
+    add_check(w, "triangle: in its door's zone", 3, (const uint32_t[][3]){{a, covers, b}, {b, leads, c}, {a, in, c}});
+    add_check(w, "triangle, and another door seen", 4, (const uint32_t[][3]){{a, covers, b}, {b, leads, c}, {a, sees, d}, {a, in, c}});
+    add_check(w, "triangle at an open door, its zone", 5,
+              (const uint32_t[][3]){{a, state, open}, {a, leads, b}, {c, in, b}, {d, in, b}, {c, covers, a}});
+    add_check(w, "square: two sensors, door and zone", 4, (const uint32_t[][3]){{a, covers, b}, {c, covers, b}, {a, in, d}, {c, in, d}});
+    add_check(w, "star that sees its door", 4, (const uint32_t[][3]){{a, covers, b}, {a, in, c}, {b, state, d}, {a, sees, b}});
+    add_check(w, "two sensors of one zone see one door", 5,
+              (const uint32_t[][3]){{a, sees, b}, {c, covers, b}, {a, in, d}, {c, in, d}, {c, sees, b}});
+    add_check(w, "triangle seen beside an open door", 6,
+              (const uint32_t[][3]){{a, leads, b}, {c, sees, a}, {d, state, open}, {c, in, b}, {c, covers, a}, {c, sees, d}});
+}
+
 /* ---- sites */
 
 /* The predicates 1, 2 and so on, of which each has so many rows. */
@@ -171,6 +188,25 @@ static void make_watched_shop(struct workload *w, const char *name, uint32_t row
             put_row(site, (struct row){first[p] + r, object[p]});
         }
     add_shared_door_checks(w);
+}
+
+/* A shop of so many rows whose doors lead to zones: three in ten are sensors that cover a door, and as many that sit in a zone, every other one
+ * in that of its door; one in eight is a door with its state, and as many with the zone that it leads to. The others are sensors that see a door,
+ * two of three the one that they cover. One door in eight is open. */
+static void make_ringed_shop(struct workload *w, const char *name, uint32_t rows) {
+    const uint32_t sensors = rows * 3 / 10, doors = rows / 8, zones = 1 + rows / 40, seeing = rows - 2 * sensors - 2 * doors;
+    const uint32_t count[5] = {sensors, sensors, doors, doors, seeing}, first[5] = {FIRST_SENSOR, FIRST_SENSOR, FIRST_DOOR, FIRST_DOOR, FIRST_SENSOR};
+    struct file *site = begin_file(&w->site, name, rows);
+    w->rows = rows;
+    put_declarations(site, 5, count);
+    for (uint32_t p = 0; p < 5; p++)
+        for (uint32_t r = 0; r < count[p]; r++) {
+            const uint32_t door = r % doors;
+            const uint32_t object[5] = {FIRST_DOOR + door, FIRST_ZONE + (door + r / doors % 2) % zones, r % 8 == 5 ? OPEN : CLOSED,
+                                        FIRST_ZONE + r % zones, FIRST_DOOR + (door + (r % 3 == 2)) % doors};
+            put_row(site, (struct row){first[p] + r, object[p]});
+        }
+    add_ring_checks(w);
 }
 
 /* 01's worked shop, and its check. */
@@ -235,6 +271,10 @@ void make_workload(size_t k, struct workload *w) {
     case 14:
     case 15:
         make_watched_shop(w, "watched shop of %u rows", k == 14 ? 256 : 1024);
+        break;
+    case 16:
+    case 17:
+        make_ringed_shop(w, "ringed shop of %u rows", k == 16 ? 256 : 1024);
         break;
     default:
         make_shop(w, "shop of %u rows", 4u << (2 * k), as_numbered);

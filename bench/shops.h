@@ -4,7 +4,7 @@
 
 #include "files.h"
 
-enum { SITES = 16, CHECKS = 12 };
+enum { SITES = 18, CHECKS = 12 };
 
 struct named_file {
     char name[40];
@@ -19,8 +19,8 @@ struct workload {
 };
 
 /* The k-th of SITES: the worked shop, shops of 16, 64, 256 and 1,024 rows, the worst sites for semi-joins, shops whose
- * columns have gaps: their terms numbered by first appearance, or scattered over 16 bits or over 24; and shops whose predicates share doors,
- * with checks of two sensors on one door. */
+ * columns have gaps: their terms numbered by first appearance, or scattered over 16 bits or over 24; shops whose predicates share doors, with
+ * checks of two sensors on one door; and shops whose doors lead to zones, with checks whose variables stand in a ring. */
 void make_workload(size_t k, struct workload *workload);
 
 #endif

@@ -4,7 +4,7 @@
 static void choose_table(const uint32_t *store, const struct pattern *pattern, size_t i, struct candidate *candidate) {
     const struct triple *own = &pattern->triples[i], *other = pattern->triples;
     const uint32_t *at = own->at, full = table_of(store, pattern, i, 0)[0];
-    *candidate = (struct candidate){0, full, POSITIONS - at[SUBJECT] % 2 - at[OBJECT] % 2, false, false};
+    *candidate = (struct candidate){0, full, POSITIONS - at[SUBJECT] % 2 - at[OBJECT] % 2, 0, false};
     for (uint32_t choice = 1; choice <= KINDS * pattern->count; choice += KINDS, other++) {
         const uint32_t *entry = entries_of(store, own, other);
         for (uint32_t k = 0; k < KINDS; k++)
