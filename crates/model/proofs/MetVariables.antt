@@ -1,5 +1,5 @@
 -- Variables that are met, and what counts as a term (S-16).
-use Prim.Native.Nat.{ℕ, _+_}
+use Prim.Native.Nat.{ℕ, _+_, _≤_}
 use mathlib.Core.Path.{_≡_, refl, sym, _∙_}
 use mathlib.Core.Logic.{inl, inr, _↔_}
 use mathlib.Core.Bool.{true, cond}
@@ -11,7 +11,7 @@ use Rattle.model.specs.Planner.{isJoined, isMet, countsAsTerm, termCount
 use Rattle.model.specs.declared.pattern.Position.{Position}
 use Rattle.model.specs.declared.pattern.Position.the-variants.{Term, Var}
 use Rattle.model.proofs.Booleans.{bool-ext}
-use Rattle.model.proofs.Membership.{count-three, from-any, into-any}
+use Rattle.model.proofs.Membership.{filter-fewer, count-three, from-any, into-any}
 use Rattle.model.proofs.Places.{one-variable}
 use Rattle.model.proofs.MayChoose.{joined-exactly}
 
@@ -62,6 +62,11 @@ module _ (pattern : Pattern) (taken : List ℕ) where
       termCount pattern taken i ≡ one (q .subject) + (one (q .predicate) + one (q .object))
   unfolding termCount
   count-terms i = let q = tripleAt pattern i in count-three (countsAsTerm pattern taken) (q .subject) (q .predicate) (q .object)
+
+  -- there are three
+  pub count-most : (i : ℕ) → termCount pattern taken i ≤ 3
+  unfolding termCount
+  count-most i = filter-fewer (countsAsTerm pattern taken) (positions (tripleAt pattern i))
 
 -- with nothing taken the written terms count
 pub count-written : (pattern : Pattern) (i : ℕ)

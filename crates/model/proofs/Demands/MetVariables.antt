@@ -1,29 +1,34 @@
 -- S-16, a door already found is a fixed door: what counts as a term when positions are counted, and that no row depends on it.
 use Prim.Native.Nat.{ℕ, _+_}
+use native.Mathlib.Omega.{arith}
 use mathlib.Core.Path.{_≡_, refl, sym, ap, _∙_}
-use mathlib.Core.Logic.{_↔_}
-use mathlib.Core.Bool.{true}
-use mathlib.Core.List.{List, []}
+use mathlib.Core.Logic.{_↔_, inl, inr}
+use mathlib.Core.Bool.{Bool, true, false}
+use mathlib.Core.List.{List, [], _∷_, _++_}
+use lib.Dec.{eqb}
+use borrow.Author.Tests.{eqb-true, eqb-false}
+use Rattle.model.specs.Lists.{_∈_}
 use Rattle.model.specs.Reader.{gives}
 use Rattle.model.specs.Site.{Site, isSite}
-use Rattle.model.specs.Store.{Holds, storeAt}
+use Rattle.model.specs.Store.{Store, Holds, storeAt}
 use Rattle.model.specs.Pattern.{Pattern, width, tripleAt}
 use Rattle.model.specs.PatternFile.{readPattern}
-use Rattle.model.specs.Plan.{Plan}
+use Rattle.model.specs.Plan.{Plan, placesOf}
 use Rattle.model.specs.PlanFile.{readPlan}
-use Rattle.model.specs.Planner.{isMet, countsAsTerm, termCount, termsAt, CountsAsTerm}
+use Rattle.model.specs.Planner.{isJoined, isMet, countsAsTerm, termCount, planned, termsAt, CountsAsTerm, Precedes}
 use Rattle.model.specs.Join.{joinRows}
 use Rattle.model.specs.Calls.{plan, rowsOutcome, run, whether}
 use Rattle.model.specs.Chain.{stepBytes}
 use Rattle.model.specs.declared.pattern.Position.{Position}
 use Rattle.model.specs.declared.pattern.Position.the-variants.{Term, Var}
-use Rattle.model.proofs.MetVariables.{counted-exactly, count-terms, count-written}
+use Rattle.model.proofs.MetVariables.{counted-exactly, count-terms, count-most, count-written}
 use Rattle.model.proofs.Patterns.{pattern-limit}
 use Rattle.model.proofs.PatternFile.{pattern-accepted}
 use Rattle.model.proofs.Success.{whether-succeeds}
 use Rattle.model.proofs.ChainRows.{planned-read}
 use Rattle.model.proofs.Demands.Answers.{demand-1-planned, demand-1-ran}
 use Rattle.model.proofs.Demands.Solutions.{demand-3}
+use Rattle.model.proofs.Demands.Planner.{planner-order}
 
 -- ==== A variable met in an earlier step now counts like a term when positions are counted, in object and subject alike.
 
@@ -53,6 +58,24 @@ Written-Terms-First =
 
 pub written-terms-first : Written-Terms-First
 written-terms-first = count-written
+
+-- so a remaining triple pattern that shares a variable with those taken, and none of whose positions is a variable not met, goes before
+-- every one that has such a position
+abbrev pub Known-First : Type 0
+Known-First =
+    (store : Store) (pattern : Pattern) (before after : List ℕ) (i : ℕ) → placesOf (planned store pattern) ≡ before ++ i ∷ after
+    → (j : ℕ) → j ∈ after → isJoined pattern before j ≡ true → termCount pattern before j ≡ 3 → termCount pattern before i ≡ 3
+
+pub known-first : Known-First
+known-first store pattern before after i e j m joined known = go (eqb j i) refl
+  where
+    by-order : Precedes store pattern before i j → termCount pattern before i ≡ 3
+    by-order (inl more) = omega (arith, count-most pattern before i)
+    by-order (inr (same, rest)) = same ∙ known
+
+    go : (b : Bool) → eqb j i ≡ b → termCount pattern before i ≡ 3
+    go true q = rw (eqb-true j i q) at known
+    go false q = by-order (planner-order store pattern before after i e .1 j m (inl joined) (eqb-false j i q))
 
 -- ==== The rows a check yields can't depend on it.
 
