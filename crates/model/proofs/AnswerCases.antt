@@ -316,10 +316,13 @@ abbrev pub tied : List ℕ
 tied =
     0x04 ∷ 0x01 ∷ 0x02 ∷ 0x02 ∷ 0x01 ∷ 0x03 ∷ 0x01 ∷ 0x04 ∷ 0x01 ∷ 0x0A ∷ 0x14 ∷ 0x0B ∷ 0x15 ∷ 0x0A ∷ 0x1E ∷ 0x0A ∷ 0x28 ∷ 0x15 ∷ 0x0A ∷ []
 
--- the plan on the store of a site
+-- the plan on a store
+abbrev pub planOver : List ℕ → List ℕ → List ℕ → ℕ → Case
+planOver words bytes steps count = (planOutcome (plan words bytes), outcome PlanAnswer (steps ++ (replicate (16 - 2 * count) 0 ++ count ∷ [])))
+
+-- on the store of a site
 abbrev pub planOf : List ℕ → List ℕ → List ℕ → ℕ → Case
-planOf site bytes steps count =
-    (planOutcome (plan (build 1000 site (lent 170) .memory) bytes), outcome PlanAnswer (steps ++ (replicate (16 - 2 * count) 0 ++ count ∷ [])))
+planOf site = planOver (build 1000 site (lent 170) .memory)
 
 abbrev pub plannerCases : List Case
 plannerCases =

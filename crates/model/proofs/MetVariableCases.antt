@@ -5,7 +5,7 @@ use mathlib.Core.List.{List, [], _∷_}
 use Rattle.model.specs.Calls.{outcome, build, run, whether}
 use Rattle.model.specs.declared.answer.Answer.the-variants.{Rows, Built, Yes}
 use Rattle.model.proofs.Cases.{lent, answered, Case, Hold, computing}
-use Rattle.model.proofs.AnswerCases.{planOf}
+use Rattle.model.proofs.AnswerCases.{planOver}
 
 -- 1 has the row 10 20; 2 has 10 20 and 20 30
 abbrev pub ringSite : List ℕ
@@ -33,17 +33,17 @@ abbrev pub metVariableCases : List Case
 metVariableCases =
     (build 1000 ringSite (lent 57), outcome (Built 57) ringWords)
     -- both variables of place 2 are met when place 0 is taken: it goes before place 1, which has as few rows and is lower
-    ∷ planOf ringSite ring (0 ∷ 0 ∷ 2 ∷ 1 ∷ 1 ∷ 3 ∷ []) 3
+    ∷ planOver ringWords ring (0 ∷ 0 ∷ 2 ∷ 1 ∷ 1 ∷ 3 ∷ []) 3
     -- the rows are those of the written order
     ∷ (run ringWords ring (0x00 ∷ 0x00 ∷ 0x02 ∷ 0x01 ∷ 0x01 ∷ 0x03 ∷ []) (lent 3), outcome (Rows 1 3) (10 ∷ 20 ∷ 30 ∷ []))
     ∷ (run ringWords ring (0x00 ∷ 0x00 ∷ 0x01 ∷ 0x00 ∷ 0x02 ∷ 0x00 ∷ []) (lent 3), outcome (Rows 1 3) (10 ∷ 20 ∷ 30 ∷ []))
     ∷ (answered (whether ringWords ring (0x00 ∷ 0x00 ∷ 0x02 ∷ 0x01 ∷ 0x01 ∷ 0x03 ∷ [])), answered Yes)
     -- ?0 1 ?1, ?2 2 ?1, ?0 2 ?1: a subject that is met counts as an object does
-    ∷ planOf ringSite (0x03 ∷ 0x01 ∷ 0x02 ∷ 0x03 ∷ 0x05 ∷ 0x04 ∷ 0x03 ∷ 0x01 ∷ 0x04 ∷ 0x03 ∷ []) (0 ∷ 0 ∷ 2 ∷ 1 ∷ 1 ∷ 4 ∷ []) 3
+    ∷ planOver ringWords (0x03 ∷ 0x01 ∷ 0x02 ∷ 0x03 ∷ 0x05 ∷ 0x04 ∷ 0x03 ∷ 0x01 ∷ 0x04 ∷ 0x03 ∷ []) (0 ∷ 0 ∷ 2 ∷ 1 ∷ 1 ∷ 4 ∷ []) 3
     -- ?0 1 ?1, ?1 2 ?2, ?1 2 ?1: each position counts
-    ∷ planOf ringSite (0x03 ∷ 0x01 ∷ 0x02 ∷ 0x03 ∷ 0x03 ∷ 0x04 ∷ 0x05 ∷ 0x03 ∷ 0x04 ∷ 0x03 ∷ []) (0 ∷ 0 ∷ 2 ∷ 3 ∷ 1 ∷ 3 ∷ []) 3
+    ∷ planOver ringWords (0x03 ∷ 0x01 ∷ 0x02 ∷ 0x03 ∷ 0x03 ∷ 0x04 ∷ 0x05 ∷ 0x03 ∷ 0x04 ∷ 0x03 ∷ []) (0 ∷ 0 ∷ 2 ∷ 3 ∷ 1 ∷ 3 ∷ []) 3
     -- ?0 1 ?1, ?1 2 30, ?0 2 ?2, ?1 2 ?3: ?1 is met twice and counts once, so place 3 ties with place 2
-    ∷ planOf ringSite
+    ∷ planOver ringWords
     (0x04 ∷ 0x01 ∷ 0x02 ∷ 0x03 ∷ 0x03 ∷ 0x04 ∷ 0x3C ∷ 0x01 ∷ 0x04 ∷ 0x05 ∷ 0x03 ∷ 0x04 ∷ 0x07 ∷ [])
     (1 ∷ 3 ∷ 0 ∷ 0 ∷ 2 ∷ 1 ∷ 3 ∷ 3 ∷ []) 4
     ∷ []

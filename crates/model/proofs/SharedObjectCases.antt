@@ -5,7 +5,7 @@ use mathlib.Core.List.{List, [], _∷_}
 use Rattle.model.specs.Calls.{outcome, build, run, whether}
 use Rattle.model.specs.declared.answer.Answer.the-variants.{Rows, None, Built, Yes, Refused}
 use Rattle.model.proofs.Cases.{lent, answered, Case, Hold, computing}
-use Rattle.model.proofs.AnswerCases.{planOf}
+use Rattle.model.proofs.AnswerCases.{planOver}
 
 -- 1 has the rows 10 20, 11 21 and 12 21; 2 has 13 21; 3 has 10 20
 abbrev pub twoSensors : List ℕ
@@ -40,7 +40,7 @@ abbrev pub sharedObjectCases : List Case
 sharedObjectCases =
     (build 1000 twoSensors (lent 102), outcome (Built 102) twoSensorsWords)
     -- place 0 takes OO against place 1, choice 8, and the rows are those of VP
-    ∷ planOf twoSensors oneDoor (1 ∷ 0 ∷ 0 ∷ 8 ∷ []) 2
+    ∷ planOver twoSensorsWords oneDoor (1 ∷ 0 ∷ 0 ∷ 8 ∷ []) 2
     ∷ (run twoSensorsWords oneDoor (0x01 ∷ 0x00 ∷ 0x00 ∷ 0x08 ∷ []) (lent 6), outcome (Rows 2 3) (11 ∷ 21 ∷ 13 ∷ 12 ∷ 21 ∷ 13 ∷ []))
     ∷ (run twoSensorsWords oneDoor (0x01 ∷ 0x00 ∷ 0x00 ∷ 0x00 ∷ []) (lent 6), outcome (Rows 2 3) (11 ∷ 21 ∷ 13 ∷ 12 ∷ 21 ∷ 13 ∷ []))
     ∷ (answered (whether twoSensorsWords oneDoor (0x01 ∷ 0x00 ∷ 0x00 ∷ 0x08 ∷ [])), answered Yes)
@@ -49,9 +49,9 @@ sharedObjectCases =
     -- ?0 2 ?1, ?2 3 ?1: OO is empty
     ∷ (run twoSensorsWords (0x02 ∷ 0x01 ∷ 0x04 ∷ 0x03 ∷ 0x05 ∷ 0x06 ∷ 0x03 ∷ []) (0x00 ∷ 0x00 ∷ 0x01 ∷ 0x00 ∷ []) [], outcome None [])
     -- ?0 1 ?1, ?2 2 ?1, ?3 2 ?1: OO against either leaves two rows, and the lower j is chosen
-    ∷ planOf twoSensors (0x03 ∷ 0x01 ∷ 0x02 ∷ 0x03 ∷ 0x05 ∷ 0x04 ∷ 0x03 ∷ 0x07 ∷ 0x04 ∷ 0x03 ∷ []) (1 ∷ 0 ∷ 2 ∷ 0 ∷ 0 ∷ 8 ∷ []) 3
+    ∷ planOver twoSensorsWords (0x03 ∷ 0x01 ∷ 0x02 ∷ 0x03 ∷ 0x05 ∷ 0x04 ∷ 0x03 ∷ 0x07 ∷ 0x04 ∷ 0x03 ∷ []) (1 ∷ 0 ∷ 2 ∷ 0 ∷ 0 ∷ 8 ∷ []) 3
     -- ?0 1 ?1, ?0 3 ?1: SS and OO leave one row each, and the lower k is chosen
-    ∷ planOf twoSensors (0x02 ∷ 0x01 ∷ 0x02 ∷ 0x03 ∷ 0x01 ∷ 0x06 ∷ 0x03 ∷ []) (0 ∷ 5 ∷ 1 ∷ 0 ∷ []) 2
+    ∷ planOver twoSensorsWords (0x02 ∷ 0x01 ∷ 0x02 ∷ 0x03 ∷ 0x01 ∷ 0x06 ∷ 0x03 ∷ []) (0 ∷ 5 ∷ 1 ∷ 0 ∷ []) 2
     ∷ []
 
 pub shared-objects-worked : Hold sharedObjectCases
