@@ -1,2 +1,4 @@
 // Look-ups in validated words.
+#![tactic(auto)]
+
 pub mod lookup;

@@ -7,7 +7,7 @@ ghost use Rattle.catalog.specs.Lookups.{Validated, place_of, RowsAt};
 use tables::layout::{semi_join_entry, semi_join_entry_at, table_entry};
 
 // The place of a predicate among the declared ones.
-#[derive(Drop)]
+#[derive(Clone, Copy)]
 pub enum Found {
     At(usize),
     Absent,

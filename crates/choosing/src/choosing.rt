@@ -27,7 +27,7 @@ pub fn qualifies(q: TriplePattern, i: usize, r: TriplePattern, j: usize, k: usiz
 }
 
 // The rows of a table that may be chosen, or that it may not.
-#[derive(Drop)]
+#[derive(Clone, Copy)]
 pub enum Chooseable {
     Rows(usize),
     Nothing,
@@ -70,7 +70,7 @@ pub fn may_choose(w: &[u32], pattern: Pattern, i: usize, choice: usize) -> bool
 }
 
 // The table chosen for a place: its choice, and its rows.
-#[derive(Drop)]
+#[derive(Clone, Copy)]
 pub struct Choice {
     pub number: usize,
     pub rows: usize,

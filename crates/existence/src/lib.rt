@@ -1,2 +1,4 @@
 // The join of a physical plan: whether there is a solution.
+#![tactic(auto)]
+
 pub mod exists;

@@ -15,7 +15,7 @@ use Rattle.model.specs.Reader.{gives}
 use Rattle.model.specs.Numbers.{are_bytes}
 use Rattle.model.specs.Site.{Site}
 use Rattle.model.specs.SiteFile.{read_site}
-use Rattle.model.specs.Tables.{at, most_threshold}
+use Rattle.model.specs.Tables.{most_threshold}
 use Rattle.model.specs.Store.{layout, Holds, Store, store_at}
 use Rattle.model.specs.Pattern.{width}
 use Rattle.model.specs.Solutions.{IsSolution, solutions}

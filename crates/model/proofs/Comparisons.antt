@@ -1,5 +1,5 @@
 -- The comparisons of a semi-join: where a row's search for its first partner ends, and how many there can be.
-use Prim.Native.Nat.{ℕ, suc, ◌+◌, ◌*◌, ◌≤◌}
+use Prim.Native.Nat.{suc, ◌+◌, ◌*◌, ◌≤◌}
 use native.Mathlib.Omega.{arith}
 use mathlib.Core.Path.{◌≡◌, refl, ap}
 use mathlib.Core.Bool.{Bool, true, false, cond}
@@ -36,8 +36,8 @@ module _ {A : Type 0} (p : A → Bool) where
       go true h = omega arith
       go false h = omega arith
 
-pub no_partner : (k : Kind) {r : Row} (q : List Row) → (Partner k q r → ⊥) → any (are_partners k r) q ≡ false
-no_partner k {r} q none =
+pub no_partner : (k : Kind) (r : Row) (q : List Row) → (Partner k q r → ⊥) → any (are_partners k r) q ≡ false
+no_partner k r q none =
     to_false (any (are_partners k r) q)
     (λ h. let (s, inside, same) = from_any (are_partners k r) q h in none (s, inside, eqb-true (at k.0 r) (at k.1 s) same))
 

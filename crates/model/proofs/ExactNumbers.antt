@@ -226,8 +226,8 @@ module _ {words : List ℕ} {t : ℕ} {site : Site} (holds : Holds words t site)
     from_pattern : (n : ℕ) → read_pattern site bytes ≡ refused n → CheckRefused words bytes n
     from_pattern n h = pattern_refused holds ((pattern_exactly site bytes n).0 h)
 
-    pub plan_numbers_lem : (n : ℕ) → Between 11 17 n → ((plan words bytes).answer ≡ Refused n) ↔ (read_pattern site bytes ≡ refused n)
-    plan_numbers_lem n between = (
+    pub plan_numbers : (n : ℕ) → Between 11 17 n → ((plan words bytes).answer ≡ Refused n) ↔ (read_pattern site bytes ≡ refused n)
+    plan_numbers n between = (
       (λ h. check_numbers between.0 ((plan_call_exactly words bytes n).0 h)),
       λ h. (plan_call_exactly words bytes n).1 (from_pattern n h),
     )

@@ -25,6 +25,7 @@ use Rattle.model.proofs.Below.{length-count_up, count_up-ascends}
 
 -- an ascending list has each number once
 length_without : {i : ℕ} (xs : List ℕ) → ascends ltb xs ≡ true → i ∈ xs → suc (length (without i xs)) ≡ length xs
+length_without [] e m = elim m [ ]
 length_without {i} (x ∷ xs) e (Memᴰ.head q) =
     rw (eq-eqb x i (sym q)) (ap (λ l. suc (length l)) (filter-all (λ j. not (eqb j i)) xs other))
   where

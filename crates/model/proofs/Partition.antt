@@ -33,7 +33,7 @@ pub record Proper (site : Site) : Type 0 where
   pub row_limit : row_total site ≤ most_rows
   pub predicate_terms : all (λ t. is_term t.predicate) site ≡ true
   pub predicates_ascend : ascends ltb (predicates site) ≡ true
-  pub rows_proper_lem : all (λ t. rows_proper t.rows) site ≡ true
+  pub rows_proper : all (λ t. rows_proper t.rows) site ≡ true
 
 pub proper : (site : Site) → is_site site ≡ true → Proper site
 unfolding is_site_under
@@ -47,7 +47,7 @@ proper site h =
       row_limit = leb-true (row_total site) most_rows limits.1;
       predicate_terms = ps.0;
       predicates_ascend = ps.1;
-      rows_proper_lem = rest.1;
+      rows_proper = rest.1;
     }
 
 -- ---- the facts with a predicate
@@ -108,10 +108,11 @@ skipped p t h = rw (ne_eqb t.predicate p h) refl
 
 concat_map-table : {table : Table} {site : Site} → table ∈ site → ascends ltb (predicates site) ≡ true → concat_map (under table.predicate) site ≡ table.rows
 concat_map-table {table} (Memᴰ.head {x} {xs} e) h =
+    let same : table.predicate ≡ x.predicate = ap (λ (t : Table). t.predicate) e in
     rw (
+      concat_map_nothing (under table.predicate) xs (λ u m. skipped table.predicate u (λ q. let k = later x u xs h m in omega arith)),
       e,
       eq-eqb x.predicate x.predicate refl,
-      concat_map_nothing (under x.predicate) xs (λ u m. skipped x.predicate u (λ q. let k = later x u xs h m in omega arith)),
     )
     (append-nil x.rows)
 concat_map-table {table} (Memᴰ.tail {x} {xs} m) h =
@@ -128,7 +129,7 @@ vp-ascends site p h = go (bool_cases (is_declared site p))
     go (inl d) =
         let x = from_any (λ t. eqb t.predicate p) site d in
         let rs = x.0.rows in
-        let r = from_all (λ t. rows_proper t.rows) site (proper site h).rows-proper x.1 in
+        let r = from_all (λ t. rows_proper t.rows) site (proper site h).rows_proper x.1 in
         rw (← (eqb-true x.0.predicate p x.2), vp-table site x.0 h x.1)
         (and_cases (all (λ s. is_term s.0 && is_term s.1) rs) (ascends row_before rs) r).1
     go (inr d) = rw (vp_undeclared site p d) refl

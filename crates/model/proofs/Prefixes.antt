@@ -9,7 +9,7 @@ use mathlib.Core.List.{List, [], ◌∷◌, ◌++◌}
 use lib.ListN.{length}
 use lib.Seq.{drop-append-le}
 use lib.Dec.{eqb, ltb}
-use Rattle.model.specs.Reader.{refused, gives, Reader, after, ask, whole_file, repeated}
+use Rattle.model.specs.Reader.{gives, Reader, after, ask, whole_file, repeated}
 use Rattle.model.specs.Numbers.{Sized, last_group, low_group, number_within, number_in_under, number_in, or_refused, number_under, number}
 use Rattle.model.specs.Site.{Row, Site}
 use Rattle.model.specs.SiteFile.{Declaration, declaration_under, declaration, row_under, row, tables_under, tables, site_file_under, site_file, read_site_under, read_site}

@@ -8,7 +8,7 @@ use mathlib.Core.List.{List, [], ◌∷◌}
 use lib.Dec.{eqb, ltb}
 use borrow.Author.Tests.{ltb-true, ltb-false, lt-ltb, le-ltb, leb-true, leb-false, le-leb, lt-leb, eqb-true, eqb-false, ne_eqb}
 use Rattle.model.specs.Lists.{above_last}
-use Rattle.model.specs.Reader.{refused, gives, after, ask}
+use Rattle.model.specs.Reader.{refused, after, ask}
 use Rattle.model.specs.Numbers.{most_term, is_term}
 use Rattle.model.specs.Site.{Row, row_before, most_rows}
 use Rattle.model.specs.SiteFile.{Declaration, declared_terms, declared_total, declaration_under, declaration, row_under, row}

@@ -8,7 +8,7 @@ use lib.ListN.{length}
 use lib.Dec.{eqb}
 use borrow.Author.Tests.{ltb-true, ltb-false, lt-ltb, le-ltb, eqb-true, eq-eqb, not-true, not-false}
 use Rattle.model.specs.Lists.{◌∈◌, any}
-use Rattle.model.specs.Reader.{refused, gives, after, ask}
+use Rattle.model.specs.Reader.{refused, after, ask}
 use Rattle.model.specs.Store.{Store}
 use Rattle.model.specs.Pattern.{Pattern}
 use Rattle.model.specs.Plan.{Plan, places_of, is_place}

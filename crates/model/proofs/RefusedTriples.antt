@@ -6,13 +6,13 @@ use mathlib.Core.Bool.{true, false}
 use mathlib.Core.List.{List, [], ◌∷◌}
 use lib.Dec.{eqb, ltb, leb}
 use borrow.Author.Tests.{ltb-true, ltb-false, lt-ltb, le-ltb, leb-true, leb-false, le-leb, lt-leb, eqb-true, eq-eqb}
-use Rattle.model.specs.Reader.{refused, gives, after, ask}
+use Rattle.model.specs.Reader.{refused, after, ask}
 use Rattle.model.specs.Numbers.{most_term, is_term}
 use Rattle.model.specs.Site.{Site, is_declared}
 use Rattle.model.specs.Pattern.{Pattern, most_variables, variables, variables_with, width, is_position, is_predicate}
 use Rattle.model.specs.PatternFile.{position_of, ask_position_under, ask_position, ask_predicate_under, ask_predicate, triple_pattern_under, triple_pattern, position_number}
 use Rattle.model.specs.Questions.{PositionPasses, PositionRefused, IsDeclared, PredicatePasses, PredicateRefused, TripleRefused}
-use Rattle.model.specs.Questions.PositionPasses.{is_term_lem, is_variable}
+use Rattle.model.specs.Questions.PositionPasses.{is_a_term, is_variable}
 use Rattle.model.specs.Questions.PositionRefused.{no_term, out_of_range, out_of_order}
 use Rattle.model.specs.Questions.PredicateRefused.{is_a_variable, above-terms, not_declared}
 use Rattle.model.specs.Questions.TripleRefused.{no_subject, subject_refused, no_predicate, predicate_refused, no_object, object_refused}
@@ -27,20 +27,20 @@ use Rattle.model.proofs.Questions.{gives≢refused, begins, no_number, by_number
 -- ---- a position
 
 -- the number 2t or 2v + 1 is that position
-position_of : {x : ℕ} (position : Position) → x ≡ position_number position → position_of x ≡ position
-position_of position e = rw e (position_back position)
+position_of_lem : {x : ℕ} (position : Position) → x ≡ position_number position → position_of x ≡ position
+position_of_lem position e = rw e (position_back position)
 
 module _ (k x : ℕ) where
   position_passes : (is_position k (position_of x) ≡ true) ↔ PositionPasses k x
   position_passes = ((λ h. to (position_of x) (sym (position_number_lem x)) h), from)
     where
       to : (position : Position) → x ≡ position_number position → is_position k position ≡ true → PositionPasses k x
-      to (Term t) e h = is_term_lem t e (leb-true t most_term h)
+      to (Term t) e h = is_a_term t e (leb-true t most_term h)
       to (Var v) e h = let c = and_cases (ltb v most_variables) (leb v k) h in is_variable v e (ltb-true v most_variables c.0) (leb-true v k c.1)
 
       from : PositionPasses k x → is_position k (position_of x) ≡ true
-      from (is_term_lem t e l) = rw (position_of (Term t) e) (le-leb t most_term l)
-      from (is_variable v e l m) = rw (position_of (Var v) e) (and_make (lt-ltb v most_variables l) (le-leb v k m))
+      from (is_a_term t e l) = rw (position_of_lem (Term t) e) (le-leb t most_term l)
+      from (is_variable v e l m) = rw (position_of_lem (Var v) e) (and_make (lt-ltb v most_variables l) (le-leb v k m))
 
   position_exactly : (bytes : List ℕ) (n : ℕ) → (ask_position k (position_of x) bytes ≡ refused n) ↔ PositionRefused k x n
   unfolding ask_position_under ask
@@ -55,9 +55,9 @@ module _ (k x : ℕ) where
           variable (inr f) = out_of_order v e (leb-false v k f.1)
 
       from : {n : ℕ} → PositionRefused k x n → ask_position k (position_of x) bytes ≡ refused n
-      from (no_term t e l) = rw (position_of (Term t) e, lt-leb t most_term l) refl
-      from (out_of_range v e l) = rw (position_of (Var v) e, left_fails (leb v k) (le-ltb v most_variables l)) refl
-      from (out_of_order v e l) = rw (position_of (Var v) e, right_fails (ltb v most_variables) (lt-leb v k l)) refl
+      from (no_term t e l) = rw (position_of_lem (Term t) e, lt-leb t most_term l) refl
+      from (out_of_range v e l) = rw (position_of_lem (Var v) e, left_fails (leb v k) (le-ltb v most_variables l)) refl
+      from (out_of_order v e l) = rw (position_of_lem (Var v) e, right_fails (ltb v most_variables) (lt-leb v k l)) refl
 
 -- ---- a predicate
 
@@ -77,7 +77,7 @@ module _ (site : Site) where
         to (Var v) e h = not_both h refl
 
         from : PredicatePasses site x → is_predicate site (position_of x) ≡ true
-        from (t, e, l, d) = rw (position_of (Term t) e) (and_make (le-leb t most_term l) ((declared_exactly t).1 d))
+        from (t, e, l, d) = rw (position_of_lem (Term t) e) (and_make (le-leb t most_term l) ((declared_exactly t).1 d))
 
     predicate_exactly : (bytes : List ℕ) (n : ℕ) → (ask_predicate site (position_of x) bytes ≡ refused n) ↔ PredicateRefused site x n
     unfolding ask_predicate_under after ask
@@ -94,16 +94,16 @@ module _ (site : Site) where
         to (Var v) e h = by_last P _ false bytes h (λ _. is_a_variable v e)
 
         from : {n : ℕ} → PredicateRefused site x n → ask_predicate site (position_of x) bytes ≡ refused n
-        from (is_a_variable v e) = rw (position_of (Var v) e) refl
-        from (above-terms t e l) = rw (position_of (Term t) e, lt-leb t most_term l) refl
-        from (not_declared t e l d) = rw (position_of (Term t) e, le-leb t most_term l, to_false (is_declared site t) (λ h. d ((declared_exactly t).0 h))) refl
+        from (is_a_variable v e) = rw (position_of_lem (Var v) e) refl
+        from (above-terms t e l) = rw (position_of_lem (Term t) e, lt-leb t most_term l) refl
+        from (not_declared t e l d) = rw (position_of_lem (Term t) e, le-leb t most_term l, to_false (is_declared site t) (λ h. d ((declared_exactly t).0 h))) refl
 
   -- ---- a triple pattern
 
   -- the predicate is a term: only the subject's variable is new to the object
   object_variables : (k s p : ℕ) → PredicatePasses site p → variables k (position_of s ∷ position_of p ∷ []) ≡ variables_with k (position_of s)
   unfolding variables
-  object_variables k s p (t, e, l, d) = rw (position_of (Term t) e) refl
+  object_variables k s p (t, e, l, d) = rw (position_of_lem (Term t) e) refl
 
   module _ (done : Pattern) (bytes : List ℕ) where
     pub triple_exactly : (n : ℕ) → (triple_pattern site done bytes ≡ refused n) ↔ TripleRefused site done bytes n

@@ -119,7 +119,7 @@ pub data SiteRefused (bytes : List ℕ) : ℕ → Type 0 where
 
 -- a subject or an object, n variables before it: 2t for the term t, or 2v + 1 for the variable v
 pub data PositionPasses (n x : ℕ) : Type 0 where
-  is_term_lem : (t : ℕ) → x ≡ 2 * t → t ≤ 16777215 → PositionPasses n x
+  is_a_term : (t : ℕ) → x ≡ 2 * t → t ≤ 16777215 → PositionPasses n x
   is_variable : (v : ℕ) → x ≡ 2 * v + 1 → v < 8 → v ≤ n → PositionPasses n x
 
 pub data PositionRefused (n x : ℕ) : ℕ → Type 0 where

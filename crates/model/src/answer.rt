@@ -1,7 +1,7 @@
 use crate::plan::Plan;
 
 // What a call answers.
-#[derive(Drop)]
+#[derive(Clone, Copy)]
 pub enum Answer {
     // The count of rows, at least 1, and the width of each.
     Rows(u64, u32),
@@ -18,7 +18,7 @@ pub enum Answer {
 }
 
 // What the planner hands back. An enum cannot hold an array, so the plan stands beside the answer.
-#[derive(Drop)]
+#[derive(Clone, Copy)]
 pub struct Planned {
     pub answer: Answer,
     pub plan: Plan,

@@ -1,11 +1,11 @@
 // A position of a triple pattern: a fixed term or a numbered variable.
-#[derive(Drop)]
+#[derive(Clone, Copy)]
 pub enum Position {
     Term(u32),
     Var(u32),
 }
 
-#[derive(Drop)]
+#[derive(Clone, Copy)]
 pub struct TriplePattern {
     pub subject: Position,
     pub predicate: Position,

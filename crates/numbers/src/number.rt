@@ -5,7 +5,7 @@ ghost use Rattle.numbers.specs.NumberAt.{number_at};
 const NUMBER_BYTES: usize = 4;
 
 // What stands at a place of some bytes: a number's value and the place after it; Bad where it is not whole or not in shortest form.
-#[derive(Drop)]
+#[derive(Clone, Copy)]
 pub enum Number {
     Value(u32, usize),
     Bad,

@@ -14,7 +14,7 @@ use positions::positions::{position_of, position_refusal, variables_with};
 use tables::limits::MOST_TERM;
 
 // A triple pattern, the numbers of its subject and object, how many variables there are with it, and the place after it; or the refusal's number.
-#[derive(Drop)]
+#[derive(Clone, Copy)]
 pub enum MemberRead {
     Member(Member, u32, u32, u32, usize),
     Refused(u32),
@@ -71,7 +71,7 @@ fn read_member(w: &[u32], s: &[u8], at: usize, met: u32) -> MemberRead
 
 // What was read of a pattern's file: 0, the pattern and the numbers of its subjects and objects, or the refusal's number. The numbers stand
 // beside the pattern, since it is copied where they are not asked for.
-#[derive(Drop)]
+#[derive(Clone, Copy)]
 pub struct PatternRead {
     pub pattern: Pattern,
     pub subjects: [u32; 8],

@@ -135,7 +135,7 @@ module _ (store : Store) (pattern : Pattern) where
       let done = map (step_at store pattern) taken in
       let same = length-map taken (step_at store pattern) in
       let count : n ≡ length done = omega arith in
-      rw (written, chosen, count, map-append) (step-written done (step_at store pattern i) (omega arith))
+      rw (written, chosen, count, map-append (step_at store pattern) taken (i ∷ [])) (step-written done (step_at store pattern i) (omega arith))
 
   -- the numbers of all steps
   pub plan-written : (taken : List ℕ) {steps : List ℕ} {n : ℕ} → Begun store pattern taken

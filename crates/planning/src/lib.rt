@@ -1,2 +1,4 @@
 // The planner: the table of each triple pattern, and their order.
+#![tactic(auto)]
+
 pub mod planner;

@@ -124,5 +124,5 @@ step-written done x h =
       padded-more (2 * most_triple_patterns) numbers x.place (omega arith),
       padded-more (2 * most_triple_patterns) (numbers ++ x.place ∷ []) x.choice (omega arith),
       append_snoc numbers x.place (x.choice ∷ []),
-      concat_map-append,
+      concat_map-append step_numbers done (x ∷ []),
     ) refl

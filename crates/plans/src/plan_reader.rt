@@ -11,7 +11,7 @@ use numbers::number::{Number, read_number};
 use positions::pattern::Pattern;
 
 // What was read of a plan's file: 0 and the plan, or the refusal's number.
-#[derive(Drop)]
+#[derive(Clone, Copy)]
 pub struct PlanRead {
     pub refusal: u32,
     pub plan: Plan,

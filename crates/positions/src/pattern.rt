@@ -9,14 +9,14 @@ pub const MOST_TRIPLE_PATTERNS: usize = 8;
 pub const MOST_VARIABLES: u32 = 8;
 
 // A triple pattern of a check, and the place of its predicate among those that the store declares.
-#[derive(Drop)]
+#[derive(Clone, Copy)]
 pub struct Member {
     pub triple: TriplePattern,
     pub table: usize,
 }
 
 // The triple patterns of a check, their count, and V.
-#[derive(Drop)]
+#[derive(Clone, Copy)]
 pub struct Pattern {
     pub members: [Member; 8],
     pub count: usize,

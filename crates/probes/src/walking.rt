@@ -6,7 +6,7 @@ use crate::one_hash_filter::may_contain;
 use searching::search::lower_bound_from;
 
 // The place that a walk has come to, and whether the value is there.
-#[derive(Drop)]
+#[derive(Clone, Copy)]
 pub struct Met {
     pub place: usize,
     pub found: bool,

@@ -1,2 +1,4 @@
 // What a caller in C sees of an answer.
+#![tactic(auto)]
+
 pub mod report;

@@ -13,7 +13,7 @@ use positions::pattern::Pattern;
 
 // What a call goes by that is given a plan: the refusal's number, or 0; then whether the counts alone say that there is no solution; and
 // where they do not, how many steps the physical plan has, and V.
-#[derive(Drop)]
+#[derive(Clone, Copy)]
 pub struct Prepared {
     pub refusal: u32,
     pub empty: bool,

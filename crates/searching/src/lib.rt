@@ -1,2 +1,4 @@
 // Words that ascend, searched.
+#![tactic(auto)]
+
 pub mod search;

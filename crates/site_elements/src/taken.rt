@@ -1,5 +1,5 @@
 // How far bytes were taken, or the refusal's number.
-#[derive(Drop)]
+#[derive(Clone, Copy)]
 pub enum Taken {
     At(usize),
     Refused(u32),

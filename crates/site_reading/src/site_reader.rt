@@ -39,7 +39,7 @@ fn read_tables(s: &[u8], at: usize, count: usize, image: &mut [u32]) -> Taken
 }
 
 // Of a whole file: the count of its predicates, or the refusal's number.
-#[derive(Drop)]
+#[derive(Clone, Copy)]
 pub enum SiteRead {
     Predicates(usize),
     Refused(u32),

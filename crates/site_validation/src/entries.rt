@@ -10,7 +10,7 @@ use tables::layout::{rows_start, table_entry};
 use tables::limits::{MOST_ROWS, MOST_TERM};
 
 // Where words that are as they should be end, or that they are not.
-#[derive(Drop)]
+#[derive(Clone, Copy)]
 pub enum Extent {
     Ends(usize),
     Invalid,

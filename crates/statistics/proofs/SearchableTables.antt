@@ -28,7 +28,7 @@ use Rattle.searching.specs.Search.{word_at, Ascending, SortedRun}
 use Rattle.tables.specs.declared.layout.TableEntry.{TableEntry}
 use Rattle.tables.specs.Entries.{TableEntryAt}
 use Rattle.tables.specs.SiteWords.{site_in, ImageOf}
-use Rattle.model.proofs.Rows.{row_at, rows-at}
+use Rattle.model.proofs.Rows.{row_at, rows_at_lem}
 use Rattle.tables.proofs.Images.{table_in}
 use Rattle.statistics.specs.IndexedTables.{passing, SameValues, AllSearchable, ObjectsSorted, AllSorted, CopyOf}
 use Rattle.statistics.specs.Compared.{are_compared}
@@ -67,7 +67,7 @@ rows-places : (w : List ℕ) (p n : ℕ) → p + 2 * n ≤ length w → rows_in 
 rows-places w p zero h = refl
 rows-places w p (suc n) h =
     ap (λ (k : ℕ). rows_in k (drop p w)) (sym (add-one n))
-    ∙ rows-at w p n 0 (omega arith)
+    ∙ rows_at_lem w p n 0 (omega arith)
     ∙ rw (rows-places w p n (omega arith)) refl
     ∙ sym (ap (map (row_at w p)) (below_last n) ∙ map-append (row_at w p) (below n) (n ∷ []))
 
@@ -164,7 +164,7 @@ module _ {count : ℕ} {w : List ℕ} (o : ImageOf count w) where
   ascending i h =
       let table = table_in o i h in
       let rs = (table_at site i).rows in
-      let good = from_all (λ t. rows_proper t.rows) site (proper site o.proper).rows-proper (at_place site no_table i (among i h)) in
+      let good = from_all (λ t. rows_proper t.rows) site (proper site o.proper).rows_proper (at_place site no_table i (among i h)) in
       let order = (and_cases (all (λ r. is_term r.0 && is_term r.1) rs) (ascends row_before rs) good).1 in
       subjects_ascend w (start_at i) (rows_at i) table.inside (ap (ascends row_before) table.back ∙ order)
 

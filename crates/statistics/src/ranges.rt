@@ -32,7 +32,7 @@ fn put_range(ranges: &mut [u32; 96], at: usize, lowest: u32, highest: u32, whole
 
 // The ranges of a table's columns. Subjects ascend: the first, the last, and 1 where each number between them is a subject too. Objects are
 // in no order: the lowest and the highest.
-#[derive(Drop)]
+#[derive(Clone, Copy)]
 pub struct Columns {
     pub first: u32,
     pub last: u32,

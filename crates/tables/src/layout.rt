@@ -50,7 +50,7 @@ pub const IMAGE_WORDS: usize = 3
     + 2 * MOST_ROWS;
 
 // The entry of a predicate: its term, its row count, and where its rows start.
-#[derive(Drop)]
+#[derive(Clone, Copy)]
 pub struct TableEntry {
     pub term: u32,
     pub rows: usize,
@@ -80,7 +80,7 @@ pub fn put_table_entry(w: &mut [u32], i: usize, term: u32, rows: u32, start: u32
 }
 
 // The entry of a semi-join: the count of the rows that it leaves, and where they start, 0 if they are not stored.
-#[derive(Drop)]
+#[derive(Clone, Copy)]
 pub struct SemiJoinEntry {
     pub rows: usize,
     pub start: usize,

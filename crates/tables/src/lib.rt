@@ -1,4 +1,6 @@
 // The layout of a store and the operands of its semi-joins, in words.
+#![tactic(auto)]
+
 pub mod copying;
 pub mod kinds;
 pub mod layout;

@@ -7,7 +7,7 @@ use crate::kinds::{KINDS, own_column, partner_column};
 use crate::layout::{semi_join_entry_at, table_entry};
 
 // The two tables of a semi-join in an image, and the columns that are compared.
-#[derive(Drop)]
+#[derive(Clone, Copy)]
 pub struct Operands {
     // Where the entry of the semi-join stands.
     pub entry: usize,

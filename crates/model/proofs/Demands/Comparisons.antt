@@ -1,5 +1,5 @@
 -- S-23, semi-joins in the paper's own order: what the count of a semi-join's comparisons is.
-use Prim.Native.Nat.{ℕ, ◌+◌, ◌*◌, ◌≤◌}
+use Prim.Native.Nat.{◌+◌, ◌*◌, ◌≤◌}
 use mathlib.Core.Path.{◌≡◌, refl}
 use mathlib.Core.List.{List, [], ◌∷◌, ◌++◌}
 use lib.ListN.{length}
@@ -30,8 +30,8 @@ PartnerPlaces =
 
 pub partner-places : PartnerPlaces
 partner-places k r = (
-  (λ before after s none same. place_behind (are_partners k r) before s after (no_partner k before none) (eq-eqb (at k.0 r) (at k.1 s) same)),
-  λ q none. all_passed_over (are_partners k r) q (no_partner k q none),
+  (λ before after s none same. place_behind (are_partners k r) before s after (no_partner k r before none) (eq-eqb (at k.0 r) (at k.1 s) same)),
+  λ q none. all_passed_over (are_partners k r) q (no_partner k r q none),
 )
 
 -- no row is compared with another twice

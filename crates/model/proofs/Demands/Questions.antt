@@ -24,7 +24,7 @@ use Rattle.model.proofs.RefusedTriples.{triple_exactly}
 use Rattle.model.proofs.RefusedSteps.{step_exactly}
 use Rattle.model.proofs.RefusedFiles.{site_exactly, pattern_exactly, plan_exactly}
 use Rattle.model.proofs.RefusedCalls.{build_exactly, plan_call_exactly, whether_exactly, run_exactly}
-use Rattle.model.proofs.ExactNumbers.{one_exactly, eight_exactly, nine_exactly, plan_ten, whether_ten, run_ten, twelve_exactly, seventeen_exactly, twenty_one_exactly, site_numbers, plan_numbers_lem, whether_numbers, whether-plan_numbers, run_numbers, run-plan_numbers}
+use Rattle.model.proofs.ExactNumbers.{one_exactly, eight_exactly, nine_exactly, plan_ten, whether_ten, run_ten, twelve_exactly, seventeen_exactly, twenty_one_exactly, site_numbers, plan_numbers, whether_numbers, whether-plan_numbers, run_numbers, run-plan_numbers}
 
 -- ==== Inputs are questioned in the order T, site, store to fill; or store, pattern, plan, rows memory. specs/Questions has a line for
 -- each way to be refused, with its number and what was passed before it: a call is refused with n exactly where such a line holds.
@@ -38,8 +38,8 @@ build_refusals = build_exactly
 abbrev pub PlanRefusals : Type 0
 PlanRefusals = (words bytes : List ℕ) (n : ℕ) → ((plan words bytes).answer ≡ Refused n) ↔ CheckRefused words bytes n
 
-pub plan_refusals_lem : PlanRefusals
-plan_refusals_lem = plan_call_exactly
+pub plan_refusals : PlanRefusals
+plan_refusals = plan_call_exactly
 
 abbrev pub RunRefusals : Type 0
 RunRefusals = (words bytes steps memory : List ℕ) (n : ℕ) → ((run words bytes steps memory).answer ≡ Refused n) ↔ RunRefused words bytes steps memory n
@@ -74,7 +74,7 @@ StoreNumbers =
 
 pub store_numbers_are_exact : StoreNumbers
 store_numbers_are_exact words t site holds bytes n = (
-  plan_numbers_lem holds bytes n,
+  plan_numbers holds bytes n,
   (λ steps. whether_numbers holds bytes steps n),
   (λ steps. run_numbers holds bytes steps n),
   (λ steps. whether-plan_numbers holds bytes steps n),

@@ -16,90 +16,90 @@ use Rattle.site_reading.proofs.Replies.{memory_refused, memory_filled}
 use Rattle.building.proofs.builder.fill_store.Statement.{statement}
 use Rattle.building.proofs.builder.fill_store.Tie as tie
 
-stored-start-requires : tie.Need-stored-start-requires
+stored-start-requires : tie.Need-stored_start-first-requires
 stored-start-requires c κs = search rules
 
-fill-entries-requires : tie.Need-fill-entries-requires
+fill-entries-requires : tie.Need-fill_entries-used-requires
 fill-entries-requires c κs = search rules
 
-same_length : tie.Need-same-length
+same_length : tie.Need-shape_of-image-then-store-used
 same_length c = search rules
 
 -- the image with all words of the front
-front-of-image : (c : tie.Else1) → let start = c.before.before.before.before.before.before.before.before.before in
+front-of-image : (c : tie.Else-store-used) → let start = c.before.before.before.before.before.before.before.before in
     FrontIn start.args.t start.args.count (site_in start.args.count start.args.image.now)
-    (sets c.before.before.before.fill-entries.new.1.1.0 0 (start.args.count ∷ start.args.t ∷ c.before.before.before.fill-entries.result ∷ []))
+    (sets c.fill_entries-used.new.image 0 (start.args.count ∷ start.args.t ∷ c.fill_entries-used.result ∷ []))
 front-of-image c =
-    let start = c.before.before.before.before.before.before.before.before.before in
-    let filled = c.before.before.before.fill-entries in
-    rw (filled.ensures.1, filled.ensures.0, c.before.before.before.before.before.stored-start.ensures) (front_in start.args.t start.requires.0)
+    let start = c.before.before.before.before.before.before.before.before in
+    let filled = c.fill_entries-used in
+    rw (filled.ensures.1, filled.ensures.0, c.stored_start-first.ensures) (front_in start.args.t start.requires.0)
 
-returns : tie.Need-returns
+returns : tie.Need-returns-then-store-used
 returns c =
-    let start = c.before.before.before.before.before.before.before.before.before.args in
+    let start = c.args in
     sym (memory_refused start.t start.store.now (site_in start.count start.image.now) (omega arith))
 
-cast-image : tie.Need-overflow-cast-image
-cast-image c = omega (arith, few_predicates c.before.before.before.before.before.before.before.before.before.requires.0)
+cast-image : tie.Need-overflow_cast-image
+cast-image c = omega (arith, few_predicates c.requires.0)
 
-slice-write-image : tie.Need-slice-write-image
+slice-write-image : tie.Need-bounds-image-0
 slice-write-image c = search rules
 
-slice-write-image-2 : tie.Need-slice-write-image-2
+slice-write-image-2 : tie.Need-bounds-image-1
 slice-write-image-2 c = simp length-set (omega arith)
 
-cast-image-2 : tie.Need-overflow-cast-image-2
+cast-image-2 : tie.Need-overflow_cast-image-2
 cast-image-2 c =
-    let start = c.before.before.before.before.before.before.before.before.before in
+    let start = c.before.before.before.before.before.before.before.before in
     omega (arith, used_limit start.requires.0 start.args.t)
 
-slice-write-image-3 : tie.Need-slice-write-image-3
+slice-write-image-3 : tie.Need-bounds-image-2
 slice-write-image-3 c = simp length-set (omega arith)
 
-copy-words-requires : tie.Need-copy-words-requires
+copy-words-requires : tie.Need-copy_words-requires
 copy-words-requires c κs =
-    let start = c.before.before.before.before.before.before.before.before.before.before.before in
+    let start = c.before.before.before.before.before.before.before.before.before in
     let site = site_in start.args.count start.args.image.now in
     (simp length-set (omega (arith, stored_start_limit _ start.requires.0.proper)), omega (arith, length-layout start.args.t site))
 
-write-stored-requires : tie.Need-write-stored-requires
+write-stored-requires : tie.Need-write_stored-requires
 write-stored-requires c κs =
-    let else = c.before.before.before.before.before.before.before in
-    let start = else.before.before.before.before.before.before.before.before.before in
+    let else = c.before.before.before.before.before in
+    let start = else.before.before.before.before.before.before.before.before in
     let site = site_in start.args.count start.args.image.now in
     let f = front-of-image else in
     ((f.image_of, start.requires.1, f.counts), rw f.same (omega (arith, else, length-layout start.args.t site)))
 
-cast-t14 : tie.Need-overflow-cast-t14
+cast-t14 : tie.Need-overflow_cast-result
 cast-t14 c =
     let else = c.before.before.before.before.before.before.before.before.before.before in
-    let start = else.before.before.before.before.before.before.before.before.before in
-    omega (arith, else.before.before.before.fill-entries.ensures.0, used_limit start.requires.0 start.args.t)
+    let start = else.before.before.before.before.before.before in
+    omega (arith, else.fill_entries-used.ensures.0, used_limit start.requires.0 start.args.t)
 
-same-length-2 : tie.Need-same-length-2
+same-length-2 : tie.Need-shape_of-image
 same-length-2 c = search rules
 
-same-length-3 : tie.Need-same-length-3
+same-length-3 : tie.Need-shape_of-store
 same-length-3 c = search rules
 
-returns-2 : tie.Need-returns-2
+returns-2 : tie.Need-returns
 returns-2 c =
-    let else = c.before.before.before.before.before.before.before.before.before.before in
-    let start = else.before.before.before.before.before.before.before.before.before.args in
+    let else = c.before.before.before.before.before.before.before.before in
+    let start = else.args in
     let site = site_in start.count start.image.now in
     let store = start.store.now in
     let f = front-of-image else in
-    let first = else.before.before.before.before.before.stored-start.ensures in
-    let used = else.before.before.before.fill-entries.ensures.0 in
-    let copied = c.before.before.before.before.before.before.before.copy-words.ensures in
+    let first = else.stored_start-first.ensures in
+    let used = else.fill_entries-used.ensures.0 in
+    let copied = c.copy_words.ensures in
     let fits : length (layout start.t site) ≤ length store = omega (arith, else) in
-    let rows = c.before.before.write-stored in
+    let rows = c.write_stored in
     let whole = store-over start.t site store fits in
-    let written : rows.new.1.1.1.0 ≡ over (layout start.t site) store = rw (rows.ensures, copied, f.same, first, f.words) whole in
+    let written : rows.new.store ≡ over (layout start.t site) store = rw (rows.ensures, copied, f.same, first, f.words) whole in
     rw (written, used) (sym (memory_filled start.t store site fits))
 
-pub fill-store-spec : {M : Type 1} → statement M
-fill-store-spec =
+pub fill_store_spec : {M : Type 1} → statement M
+fill_store_spec =
     tie.close
     (tie.spec
     stored-start-requires

@@ -7,33 +7,33 @@ use Rattle.building.proofs.Front.{last_entry}
 use Rattle.building.proofs.builder.stored_start.Statement.{statement}
 use Rattle.building.proofs.builder.stored_start.Tie as tie
 
-rows-start-requires : tie.Need-rows-start-requires
+rows-start-requires : tie.Need-rows_start-requires
 rows-start-requires c κs = search rules
 
-returns : tie.Need-returns
+returns : tie.Need-returns-then-count-eq0
 unfolding tables_in
-returns c = rw c.before.if1.true c.Rows-start.ensures
+returns c = rw c.if-count-eq0.true c.rows_start.ensures
 
-sub-table-entry : tie.Need-overflow-sub-table-entry
+sub-table-entry : tie.Need-overflow_sub-count
 sub-table-entry c = search rules
 
-table-entry-requires : tie.Need-table-entry-requires
-table-entry-requires c κs = entry_inside c.before.before.requires _ (omega arith)
+table-entry-requires : tie.Need-table_entry-last-requires
+table-entry-requires c κs = entry_inside c.requires _ (omega arith)
 
-mul-result : tie.Need-overflow-mul-result
-mul-result c = omega (arith, c.before.table-entry.ensures.small_rows)
+mul-result : tie.Need-overflow_mul-result
+mul-result c = omega (arith, c.table_entry-last.ensures.small_rows)
 
-add-result : tie.Need-overflow-add-result
-add-result c = let last = c.before.before.table-entry.ensures in omega (arith, last.small_rows, last.small_start)
+add-result : tie.Need-overflow_add-result
+add-result c = let last = c.table_entry-last.ensures in omega (arith, last.small_rows, last.small_start)
 
-returns-2 : tie.Need-returns-2
+returns-2 : tie.Need-returns
 returns-2 c =
     let called = c.before.before in
-    let last = called.table-entry.ensures in
-    rw (last.start, last.rows) (last_entry called.before.before.before.requires called.before.if1.false)
+    let last = called.table_entry-last.ensures in
+    rw (last.start, last.rows) (last_entry called.requires called.if-count-eq0.false)
 
-pub stored-start-spec : {M : Type 1} → statement M
-stored-start-spec =
+pub stored_start_spec : {M : Type 1} → statement M
+stored_start_spec =
     tie.close
     (tie.spec
     rows-start-requires

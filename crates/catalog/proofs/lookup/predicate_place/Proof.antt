@@ -11,53 +11,53 @@ use Rattle.catalog.proofs.Lookups.{place_here, place_later, place_nowhere, predi
 use Rattle.catalog.proofs.lookup.predicate_place.Statement.{statement}
 use Rattle.catalog.proofs.lookup.predicate_place.Tie as tie
 
-abbrev invariant-loop : tie.invariant-loop
+abbrev invariant-loop : tie.invariant-loop-i
 invariant-loop w term count i₀ i = (i ≤ count) × (place_of (decoded w).site term ≡ place_from i (drop i (decoded w).site) term)
 
-abbrev decreases-loop : tie.decreases-loop
+abbrev decreases-loop : tie.decreases-loop-i
 decreases-loop w term count i₀ i = count - i
 
-declared : (c : tie.In-loop invariant-loop decreases-loop) → c.before.loop.i < length (decoded c.before.before.before.before.args.w.now).site
-declared c = rw (predicate_count _ c.before.before.before.before.requires) at c.loop-test.true
+declared : (c : tie.In-loop-i invariant-loop decreases-loop) → c.loop-i.i < length (decoded c.args.w.now).site
+declared c = rw (predicate_count _ c.requires) at c.loop-i-test.true
 
-shared-slice-read-count : tie.Need-shared-slice-read-count invariant-loop decreases-loop
-shared-slice-read-count c = omega (arith, front_inside _ c.before.before.requires)
+shared-slice-read-count : tie.Need-bounds-w-0 invariant-loop decreases-loop
+shared-slice-read-count c = omega (arith, front_inside _ c.requires)
 
-cast-count : tie.Need-overflow-cast-count invariant-loop decreases-loop
-cast-count c = Fits-widen tt (c.shared-slice-known2.given _)
+cast-count : tie.Need-overflow_cast-count invariant-loop decreases-loop
+cast-count c = Fits-widen tt (c.shared_slice_known-2-1.given _)
 
-loop-holds : tie.Need-loop-init invariant-loop decreases-loop
+loop-holds : tie.Need-loop-i-init invariant-loop decreases-loop
 loop-holds c = (search rules, refl)
 
-table-entry-requires : tie.Need-table-entry-requires invariant-loop decreases-loop
-table-entry-requires c κs = entry_inside _ c.before.before.before.before.requires _ (declared c)
+table-entry-requires : tie.Need-table_entry-entry-requires invariant-loop decreases-loop
+table-entry-requires c κs = entry_inside _ c.requires _ (declared c)
 
-returns : tie.Need-returns invariant-loop decreases-loop
+returns : tie.Need-returns-then-entry-term invariant-loop decreases-loop
 returns c =
     let turn = c.before.before.before in
-    let here = c.before.before.table-entry.ensures.term ∙ entry_term _ turn.before.before.before.before.requires _ (declared turn) in
-    sym (turn.before.loop.invariant.1 ∙ place_here _ _ _ (declared turn) (sym here ∙ c.if1.true))
+    let here = c.table_entry-entry.ensures.term ∙ entry_term _ turn.requires _ (declared turn) in
+    sym (turn.loop-i.invariant.1 ∙ place_here _ _ _ (declared turn) (sym here ∙ c.if-entry-term.true))
 
-add-i : tie.Need-overflow-add-i invariant-loop decreases-loop
-add-i c = let turn = c.before.before.before in omega (arith, (entry_inside _ turn.before.before.before.before.requires _ (declared turn)).0)
+add-i : tie.Need-overflow_step-i invariant-loop decreases-loop
+add-i c = let turn = c.before.before.before in omega (arith, (entry_inside _ turn.requires _ (declared turn)).0)
 
-loop-less : tie.Need-loop-smaller invariant-loop decreases-loop
+loop-less : tie.Need-loop-i-smaller invariant-loop decreases-loop
 loop-less c = search rules
 
-loop-again : tie.Need-loop-preserved invariant-loop decreases-loop
+loop-again : tie.Need-loop-i-preserved invariant-loop decreases-loop
 loop-again c =
     let turn = c.before.before.before in
-    let here = c.before.before.table-entry.ensures.term ∙ entry_term _ turn.before.before.before.before.requires _ (declared turn) in
-    (search rules, turn.before.loop.invariant.1 ∙ place_later _ _ _ (declared turn) (λ e. c.if1.false (here ∙ e)))
+    let here = c.table_entry-entry.ensures.term ∙ entry_term _ turn.requires _ (declared turn) in
+    (search rules, turn.loop-i.invariant.1 ∙ place_later _ _ _ (declared turn) (λ e. c.if-entry-term.false (here ∙ e)))
 
-returns-2 : tie.Need-returns-2 invariant-loop decreases-loop
+returns-2 : tie.Need-returns invariant-loop decreases-loop
 returns-2 c =
     let start = c.before.before.before.before in
-    let all_done : c.before.loop.i ≡ length (decoded start.args.w.now).site = omega (arith, predicate_count _ start.requires) in
-    sym (c.before.loop.invariant.1 ∙ place_nowhere _ _ _ all_done)
+    let all_done : c.loop-i.i ≡ length (decoded start.args.w.now).site = omega (arith, predicate_count _ start.requires) in
+    sym (c.loop-i.invariant.1 ∙ place_nowhere _ _ _ all_done)
 
-pub predicate-place-spec : {M : Type 1} → statement M
-predicate-place-spec =
+pub predicate_place_spec : {M : Type 1} → statement M
+predicate_place_spec =
     tie.close
     (tie.spec
     invariant-loop

@@ -5,14 +5,14 @@ use Rattle.catalog.proofs.Lookups.{threshold_word, front_inside}
 use Rattle.catalog.proofs.lookup.threshold.Statement.{statement}
 use Rattle.catalog.proofs.lookup.threshold.Tie as tie
 
-shared-slice-read-result : tie.Need-shared-slice-read-result
-shared-slice-read-result c = omega (arith, front_inside _ c.before.requires)
+shared-slice-read-result : tie.Need-bounds-w-1
+shared-slice-read-result c = omega (arith, front_inside _ c.requires)
 
-cast-result : tie.Need-overflow-cast-result
-cast-result c = Fits-widen tt (c.shared-slice-known.given _)
+cast-result : tie.Need-overflow_cast-result
+cast-result c = Fits-widen tt (c.shared_slice_known-1.given _)
 
 returns : tie.Need-returns
-returns c = threshold_word _ c.before.requires
+returns c = threshold_word _ c.requires
 
-pub threshold-spec : {M : Type 1} → statement M
-threshold-spec = tie.close (tie.spec shared-slice-read-result cast-result returns)
+pub threshold_spec : {M : Type 1} → statement M
+threshold_spec = tie.close (tie.spec shared-slice-read-result cast-result returns)

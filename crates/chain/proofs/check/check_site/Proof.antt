@@ -8,43 +8,43 @@ use Rattle.chain.proofs.ChainAnswers.{build_refused, build-planned, none_whole, 
 use Rattle.chain.proofs.check.check_site.Statement.{statement}
 use Rattle.chain.proofs.check.check_site.Tie as tie
 
-slice-aggregate-build : tie.Need-slice-aggregate-build
+slice-aggregate-build : tie.Need-slice_bounds-build-end
 slice-aggregate-build c = search rules
 
-build-requires : tie.Need-build-requires
+build-requires : tie.Need-build-built-requires
 build-requires c κs = search rules
 
-is-refused-requires : tie.Need-is-refused-requires
+is-refused-requires : tie.Need-is_refused-requires
 is-refused-requires c κs = search rules
 
 -- each byte of the site's file is one
-below : (c : tie.After-shared-slice-known) → (i : ℕ) → get_or c.before.args.site.now i 0 < 256
-below c i = let fits = c.shared-slice-known.given i in omega arith
+below : (c : tie.After-shared_slice_known-1) → (i : ℕ) → get_or c.args.site.now i 0 < 256
+below c i = let fits = c.shared_slice_known-1.given i in omega arith
 
-returns : tie.Need-returns
+returns : tie.Need-returns-then-is_refused
 returns c =
-    let e = build_refused _ _ _ c.before.before.before.build.ensures (sym c.before.is-refused.ensures ∙ c.if1.true) in
+    let e = build_refused _ _ _ c.build-built.ensures (sym c.is_refused.ensures ∙ c.if-is_refused.true) in
     (e, (answer_fits _ _ _ e, none_whole _ _ _ (below c.before.before.before.before.before.before.before) e))
 
-slice-aggregate-plan-and-run : tie.Need-slice-aggregate-plan-and-run
+slice-aggregate-plan-and-run : tie.Need-slice_bounds-plan_and_run-end
 slice-aggregate-plan-and-run c = search rules
 
-plan-and-run-requires : tie.Need-plan-and-run-requires
+plan-and-run-requires : tie.Need-plan_and_run-requires
 plan-and-run-requires c κs = search rules
 
-same_length : tie.Need-same-length
+same_length : tie.Need-shape_of-rows
 same_length c = search rules
 
-returns-2 : tie.Need-returns-2
+returns-2 : tie.Need-returns
 returns-2 c =
     let o = c.before.before.before.before.before in
     let e =
-    c.before.before.plan-and-run.ensures
-    ∙ build-planned _ _ _ o.before.before.before.build.ensures (sym o.before.is-refused.ensures ∙ o.if1.false) in
+    c.plan_and_run.ensures
+    ∙ build-planned _ _ _ o.build-built.ensures (sym o.is_refused.ensures ∙ o.if-is_refused.false) in
     (e, (answer_fits _ _ _ e, none_whole _ _ _ (below c.before.before.before.before.before.before.before.before.before.before.before.before) e))
 
-pub check-site-spec : {M : Type 1} → statement M
-check-site-spec =
+pub check_site_spec : {M : Type 1} → statement M
+check_site_spec =
     tie.close
     (tie.spec
     slice-aggregate-build

@@ -13,34 +13,34 @@ use Rattle.choosing.proofs.choosing.qualifies.Tie as tie
 against_itself : (q : TriplePattern) (i : ℕ) (r : TriplePattern) (j k : ℕ) → i ≡ j → false ≡ qualifies_by q i r j k
 against_itself q i r j k same = rw (eq-eqb i j same) refl
 
-returns : tie.Need-returns
-returns c = let a = c.before.args in against_itself a.q _ a.r _ a.k c.if1.true
+returns : tie.Need-returns-then-i-j
+returns c = let a = c.args in against_itself a.q _ a.r _ a.k c.if-i-j.true
 
-own-column-requires : tie.Need-own-column-requires
+own-column-requires : tie.Need-own_column-requires
 own-column-requires c κs = search rules
 
-position-at-requires : tie.Need-position-at-requires
+position-at-requires : tie.Need-position_at-own-requires
 position-at-requires c κs = search rules
 
-partner-column-requires : tie.Need-partner-column-requires
+partner-column-requires : tie.Need-partner_column-requires
 partner-column-requires c κs = search rules
 
-position-at-requires-2 : tie.Need-position-at-requires-2
+position-at-requires-2 : tie.Need-position_at-other-requires
 position-at-requires-2 c κs = search rules
 
-same-variable-requires : tie.Need-same-variable-requires
+same-variable-requires : tie.Need-same_variable-requires
 same-variable-requires c κs = search rules
 
-returns-2 : tie.Need-returns-2
+returns-2 : tie.Need-returns
 returns-2 c =
     let p = c.before in
-    rw (ne_eqb _ _ p.before.before.before.before.if1.false)
-    (same_named _ _ _ c.same-variable.ensures
-    p.before.before.position_at.ensures p.before.before.before.own_column.ensures.1
-    p.position-at2.ensures p.before.partner_column.ensures.1)
+    rw (ne_eqb _ _ p.if-i-j.false)
+    (same_named _ _ _ c.same_variable.ensures
+    p.position_at-own.ensures p.own_column.ensures.1
+    p.position_at-other.ensures p.partner_column.ensures.1)
 
-pub qualifies-spec : {M : Type 1} → statement M
-qualifies-spec =
+pub qualifies_spec : {M : Type 1} → statement M
+qualifies_spec =
     tie.close
     (tie.spec
     returns

@@ -14,49 +14,49 @@ use Rattle.choosing.proofs.choosing.reduced_table.Tie as tie
 qualifies-requires : tie.Need-qualifies-requires
 qualifies-requires c κs = search rules
 
-returns : tie.Need-returns
+returns : tie.Need-returns-then-not-qualifies
 returns c =
     let s = c.before.before.before in
-    sym (open_by _ _ _ (validated_site _ s.requires.0) s.requires.1 s.requires.2 refl refl refl (sym c.before.qualifies.ensures ∙ not-true _ c.if1.true) refl)
+    sym (open_by _ _ _ (validated_site _ s.requires.0) s.requires.1 s.requires.2 refl refl refl (sym c.qualifies.ensures ∙ not-true _ c.if-not-qualifies.true-raw) refl)
 
-semi-join-rows-requires : tie.Need-semi-join-rows-requires
+semi-join-rows-requires : tie.Need-semi_join_rows-rows-requires
 semi-join-rows-requires c κs = search rules
 
 threshold-requires : tie.Need-threshold-requires
 threshold-requires c κs = search rules
 
-table-rows-requires : tie.Need-table-rows-requires
+table-rows-requires : tie.Need-table_rows-requires
 table-rows-requires c κs = search rules
 
-is-stored-requires : tie.Need-is-stored-requires
+is-stored-requires : tie.Need-is_stored-requires
 is-stored-requires c κs =
     let left = c.before.before in
     let s = left.before.before.before.before in
     let yes-site = validated_site _ s.requires.0 in (
-      rw c.before.threshold.ensures (validated_threshold _ s.requires.0),
-      rw left.semi-join-rows.ensures (left_few _ yes-site _ _ _),
-      rw c.table-rows.ensures (table_few _ yes-site _),
+      rw c.threshold.ensures (validated_threshold _ s.requires.0),
+      rw left.semi_join_rows-rows.ensures (left_few _ yes-site _ _ _),
+      rw c.table_rows.ensures (table_few _ yes-site _),
     )
 
 -- the table, by whether it is stored
-stored_is : (c : tie.After-is-stored) {b : Bool} → c.is-stored.result ≡ b → let rows = c.before.before.before in
-    let args = rows.before.before.before.before.args in
-    chooseable_table (decoded args.w.now) args.a args.i args.b args.j args.k ≡ cond b (Rows rows.semi-join-rows.result) Nothing
+stored_is : (c : tie.After-is_stored) {b : Bool} → c.is_stored.result ≡ b → let rows = c.before.before.before in
+    let args = rows.args in
+    chooseable_table (decoded args.w.now) args.a args.i args.b args.j args.k ≡ cond b (Rows rows.semi_join_rows-rows.result) Nothing
 stored_is c e =
     let rows = c.before.before.before in
     let s = rows.before.before.before.before in
     open_by _ _ _ (validated_site _ s.requires.0) s.requires.1 s.requires.2
-    c.before.before.threshold.ensures rows.semi-join-rows.ensures c.before.table-rows.ensures
-    (sym rows.before.before.qualifies.ensures ∙ not-false _ rows.before.if1.false) (sym c.is-stored.ensures ∙ e)
+    c.threshold.ensures rows.semi_join_rows-rows.ensures c.table_rows.ensures
+    (sym rows.qualifies.ensures ∙ not-false _ rows.if-not-qualifies.false-raw) (sym c.is_stored.ensures ∙ e)
 
-returns-2 : tie.Need-returns-2
-returns-2 c = sym (stored_is c.before c.if2.true)
+returns-2 : tie.Need-returns-then-is_stored
+returns-2 c = sym (stored_is c.before c.if-is_stored.true)
 
-returns-3 : tie.Need-returns-3
-returns-3 c = sym (stored_is c.before c.if2.false)
+returns-3 : tie.Need-returns
+returns-3 c = sym (stored_is c.before c.if-is_stored.false)
 
-pub reduced-table-spec : {M : Type 1} → statement M
-reduced-table-spec =
+pub reduced_table_spec : {M : Type 1} → statement M
+reduced_table_spec =
     tie.close
     (tie.spec
     qualifies-requires

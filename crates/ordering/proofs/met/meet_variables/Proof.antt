@@ -6,16 +6,16 @@ use Rattle.ordering.proofs.met.meet_variables.Statement.{statement}
 use Rattle.ordering.proofs.met.meet_variables.Tie as tie
 
 meet-requires : tie.Need-meet-requires
-meet-requires c κs = one_cell c.before.requires (Memᴰ.head refl)
+meet-requires c κs = one_cell c.requires (Memᴰ.head refl)
 
 meet-requires-2 : tie.Need-meet-requires-2
-meet-requires-2 c κs = one_cell c.before.before.before.requires (Memᴰ.tail (Memᴰ.head refl))
+meet-requires-2 c κs = one_cell c.requires (Memᴰ.tail (Memᴰ.head refl))
 
 meet-requires-3 : tie.Need-meet-requires-3
-meet-requires-3 c κs = one_cell c.before.before.before.before.before.requires (Memᴰ.tail (Memᴰ.tail (Memᴰ.head refl)))
+meet-requires-3 c κs = one_cell c.requires (Memᴰ.tail (Memᴰ.tail (Memᴰ.head refl)))
 
 returns : tie.Need-returns
-returns c = c.meet3.ensures ∙ rw (c.before.before.meet2.ensures, c.before.before.before.before.meet.ensures) refl
+returns c = c.meet-3.ensures ∙ rw (c.meet-2.ensures, c.meet.ensures) refl
 
-pub meet-variables-spec : {M : Type 1} → statement M
-meet-variables-spec = tie.close (tie.spec meet-requires meet-requires-2 meet-requires-3 returns)
+pub meet_variables_spec : {M : Type 1} → statement M
+meet_variables_spec = tie.close (tie.spec meet-requires meet-requires-2 meet-requires-3 returns)

@@ -12,64 +12,64 @@ use Rattle.ordering.proofs.MetNotes.{place_cells, none_noted, noted_more}
 use Rattle.ordering.proofs.met.note_places.Statement.{statement}
 use Rattle.ordering.proofs.met.note_places.Tie as tie
 
-abbrev invariant-loop : tie.invariant-loop
+abbrev invariant-loop : tie.invariant-loop-i
 invariant-loop met joined₀ terms₀ pattern i₀ i-end joined terms i =
     (length joined ≡ length joined₀) × (length terms ≡ length terms₀) × PlacesNoted (pattern_in pattern) i met joined terms
 
-abbrev decreases-loop : tie.decreases-loop
+abbrev decreases-loop : tie.decreases-loop-i
 decreases-loop met joined₀ terms₀ pattern i₀ i-end joined terms i = i-end - i
 
-loop-holds : tie.Need-loop-init invariant-loop decreases-loop
+loop-holds : tie.Need-loop-i-init invariant-loop decreases-loop
 loop-holds c = (refl, refl, none_noted _ _ _ _)
 
-mul-member : tie.Need-overflow-mul-member invariant-loop decreases-loop
+mul-member : tie.Need-offset_bounds-pattern-i invariant-loop decreases-loop
 mul-member c = omega arith
 
-element-copy-out-member : tie.Need-element-copy-out-member invariant-loop decreases-loop
+element-copy-out-member : tie.Need-bounds-pattern-i invariant-loop decreases-loop
 element-copy-out-member c = omega arith
 
-is-joined-requires : tie.Need-is-joined-requires invariant-loop decreases-loop
-is-joined-requires c κs = let s = c.before.before.before in place_cells s.args.t1 _ (omega arith) s.requires.0.0 s.requires.0.1
+is-joined-requires : tie.Need-is_joined-requires invariant-loop decreases-loop
+is-joined-requires c κs = let s = c.before.before.before in place_cells s.args.pattern _ (omega arith) s.requires.0.0 s.requires.0.1
 
-element-write-joined : tie.Need-element-write-joined invariant-loop decreases-loop
+element-write-joined : tie.Need-bounds-joined-i invariant-loop decreases-loop
 element-write-joined c = omega arith
 
-term-count-requires : tie.Need-term-count-requires invariant-loop decreases-loop
-term-count-requires c κs = let s = c.before.before.before.before in place_cells s.args.t1 _ (omega arith) s.requires.0.0 s.requires.0.1
+term-count-requires : tie.Need-term_count-requires invariant-loop decreases-loop
+term-count-requires c κs = let s = c.before.before.before.before in place_cells s.args.pattern _ (omega arith) s.requires.0.0 s.requires.0.1
 
-mul-terms : tie.Need-overflow-mul-terms invariant-loop decreases-loop
+mul-terms : tie.Need-offset_bounds-terms-i invariant-loop decreases-loop
 mul-terms c = omega arith
 
-element-write-terms : tie.Need-element-write-terms invariant-loop decreases-loop
+element-write-terms : tie.Need-bounds-terms-i invariant-loop decreases-loop
 element-write-terms c = omega arith
 
-add-i : tie.Need-overflow-add-i invariant-loop decreases-loop
+add-i : tie.Need-overflow_step-i invariant-loop decreases-loop
 add-i c = omega arith
 
-loop-less : tie.Need-loop-smaller invariant-loop decreases-loop
+loop-less : tie.Need-loop-i-smaller invariant-loop decreases-loop
 loop-less c = omega arith
 
-loop-again : tie.Need-loop-preserved invariant-loop decreases-loop
+loop-again : tie.Need-loop-i-preserved invariant-loop decreases-loop
 loop-again c =
-    let t = c.before.before.before in
-    let p = t.before.before.args.t1 in
-    let met = t.before.before.args.met.now in
-    let l = t.before.loop in
+    let t = c.before.before.before.before.before.before.before in
+    let p = t.args.pattern in
+    let met = t.args.met.now in
+    let l = t.loop-i in
     let (size, size', v) = l.invariant in
-    let same = sym (triple_member p l.i t.loop-test.true) in (
+    let same = sym (triple_member p l.i t.loop-i-test.true) in (
       simp length-set size,
       simp length-set size',
-      noted_more _ _ v (omega arith) (omega arith) (c.before.is-joined.ensures ∙ ap (λ q. any (met_by met) (positions q)) same)
-          (c.term-count.ensures ∙ ap (λ q. length (filter (counts_by met) (positions q))) same),
+      noted_more _ _ v (omega arith) (omega arith) (c.is_joined.ensures ∙ ap (λ q. any (met_by met) (positions q)) same)
+          (c.term_count.ensures ∙ ap (λ q. length (filter (counts_by met) (positions q))) same),
     )
 
 returns : tie.Need-returns invariant-loop decreases-loop
 returns c =
-    let (size, size', v) = c.before.loop.invariant in
+    let (size, size', v) = c.loop-i.invariant in
     (record { joins = λ i h. v.joins i (omega arith); counts = λ i h. v.counts i (omega arith) }, (size, size'))
 
-pub note-places-spec : {M : Type 1} → statement M
-note-places-spec =
+pub note_places_spec : {M : Type 1} → statement M
+note_places_spec =
     tie.close
     (tie.spec
     invariant-loop

@@ -3,14 +3,14 @@ use borrow.Author.Tests.{lt-ltb, le-ltb, eq-eqb, ne_eqb}
 use Rattle.ordering.proofs.ordering.beats.Statement.{statement}
 use Rattle.ordering.proofs.ordering.beats.Tie as tie
 
-returns : tie.Need-returns
-returns c = simp (lt-ltb _ _ c.if1.true)
+returns : tie.Need-returns-then-most-terms
+returns c = simp (lt-ltb _ _ c.if-most-terms.true)
 
-returns-2 : tie.Need-returns-2
-returns-2 c = simp (le-ltb _ _ c.before.if1.false, eq-eqb _ _ c.if2.true)
+returns-2 : tie.Need-returns-then-terms-most
+returns-2 c = simp (le-ltb _ _ c.if-most-terms.false, eq-eqb _ _ c.if-terms-most.true)
 
-returns-3 : tie.Need-returns-3
-returns-3 c = simp (le-ltb _ _ c.before.if1.false, ne_eqb _ _ c.if2.false)
+returns-3 : tie.Need-returns-else-terms-most
+returns-3 c = simp (le-ltb _ _ c.if-most-terms.false, ne_eqb _ _ c.if-terms-most.false)
 
-pub beats-spec : {M : Type 1} → statement M
-beats-spec = tie.close (tie.spec returns returns-2 returns-3)
+pub beats_spec : {M : Type 1} → statement M
+beats_spec = tie.close (tie.spec returns returns-2 returns-3)

@@ -4,11 +4,11 @@ use borrow.Author.Rules.{rules}
 use Rattle.patterns.proofs.pattern_reader.pattern_refused.Statement.{statement}
 use Rattle.patterns.proofs.pattern_reader.pattern_refused.Tie as tie
 
-no-member-requires : tie.Need-no-member-requires
+no-member-requires : tie.Need-no_member-none-requires
 no-member-requires c κs = search rules
 
 returns : tie.Need-returns
-returns c = rw c.no_member.ensures (refl, refl)
+returns c = rw c.no_member-none.ensures (refl, refl)
 
-pub pattern-refused-spec : {M : Type 1} → statement M
-pattern-refused-spec = tie.close (tie.spec no-member-requires returns)
+pub pattern_refused_spec : {M : Type 1} → statement M
+pattern_refused_spec = tie.close (tie.spec no-member-requires returns)

@@ -17,136 +17,134 @@ use Rattle.patterns.proofs.PatternFileReading.{no_count, count_refused, triples_
 use Rattle.patterns.proofs.pattern_reader.read_pattern.Statement.{statement}
 use Rattle.patterns.proofs.pattern_reader.read_pattern.Tie as tie
 
-abbrev invariant-loop : tie.invariant-loop
+abbrev invariant-loop : tie.invariant-loop-i
 invariant-loop w s n at count members₀ subjects₀ objects₀ met₀ next₀ i₀ members subjects objects met next i =
     MembersRead (decoded w).site n (drop at s) s members subjects objects met next i
 
-abbrev decreases-loop : tie.decreases-loop
+abbrev decreases-loop : tie.decreases-loop-i
 decreases-loop w s n at count members₀ subjects₀ objects₀ met₀ next₀ i₀ members subjects objects met next i = n - i
 
 -- ---- the count
 
-count-is : (k : tie.After-known-told invariant-loop decreases-loop) → let n = k.before in
-    number_at n.before.before.before.before.before.args.s.now 0 ≡ Value n.n.given.0.0 n.n.given.0.1.0
-count-is k = sym k.before.before.before.read_number.ensures ∙ k.before.n.given.1
+count-is : (k : tie.In-Value invariant-loop decreases-loop) → number_at k.args.s.now 0 ≡ Value k.in-Value.n k.in-Value.at
+count-is k = sym k.read_number.ensures ∙ k.in-Value.is
 
-count_most : (k : tie.Else2 invariant-loop decreases-loop) → k.before.before.before.n.given.0.0 ≤ most_triple_patterns
-count_most k = ltb-false _ _ k.if2.false
+count_most : (k : tie.Else-count-gt-MOST_TRIPLE_PATTERNS invariant-loop decreases-loop) → k.in-Value.n ≤ most_triple_patterns
+count_most k = ltb-false _ _ k.if-count-gt-MOST_TRIPLE_PATTERNS.false-raw
 
-count-wrong : (j : tie.Joined1 invariant-loop decreases-loop) → is_pattern_length j.before.before.n.given.0.0 ≡ false
+count-wrong : (j : tie.Joined-then-count-lt1 invariant-loop decreases-loop) → is_pattern_length j.in-Value.n ≡ false
 count-wrong j =
-    ⊎_elim (λ w. rw (lt-leb 1 _ w.taken) refl) (λ w. rw (lt-leb _ most_triple_patterns (ltb-true _ _ w.1.taken)) (and-false (leb 1 j.before.before.n.given.0.0))) j.if1.branch
+    ⊎_elim (λ w. rw (lt-leb 1 _ w.if-count-lt1.true) refl) (λ w. rw (lt-leb _ most_triple_patterns (ltb-true _ _ w.if-count-gt-MOST_TRIPLE_PATTERNS.true-raw)) (and-false (leb 1 j.in-Value.n))) j.then-count-lt1.branch-raw
 
-count-right : (k : tie.Else2 invariant-loop decreases-loop) → is_pattern_length k.before.before.before.n.given.0.0 ≡ true
-count-right k = and_make (le-leb 1 _ k.before.if1.false) (le-leb _ most_triple_patterns (count_most k))
+count-right : (k : tie.Else-count-gt-MOST_TRIPLE_PATTERNS invariant-loop decreases-loop) → is_pattern_length k.in-Value.n ≡ true
+count-right k = and_make (le-leb 1 _ k.if-count-lt1.false) (le-leb _ most_triple_patterns (count_most k))
 
 -- ---- the needs
 
-read-number-requires : tie.Need-read-number-requires invariant-loop decreases-loop
+read-number-requires : tie.Need-read_number-requires invariant-loop decreases-loop
 read-number-requires c κs = search rules
 
-enum-known-n : tie.Need-enum-known-n invariant-loop decreases-loop
+enum-known-n : tie.Need-enum_known-n invariant-loop decreases-loop
 enum-known-n c = search rules
 
-enum_told : tie.Need-enum-told invariant-loop decreases-loop
+enum_told : tie.Need-enum_told-1 invariant-loop decreases-loop
 enum_told c = search rules
 
-pattern-refused-requires : tie.Need-pattern-refused-requires invariant-loop decreases-loop
+pattern-refused-requires : tie.Need-pattern_refused-requires invariant-loop decreases-loop
 pattern-refused-requires c κs = search rules
 
-returns : tie.Need-returns invariant-loop decreases-loop
+returns : tie.Need-returns-in_default invariant-loop decreases-loop
 returns c =
     let t = c.before in
-    returns_refusal _ _ _ (no_count _ _ (sym t.before.before.read_number.ensures ∙ t.enum_told.given.1)) c.pattern_refused.ensures.0
+    returns_refusal _ _ _ (no_count _ _ (sym t.read_number.ensures ∙ t.in_default.is)) c.pattern_refused.ensures.0
 
-cast-count : tie.Need-overflow-cast-count invariant-loop decreases-loop
+cast-count : tie.Need-overflow_cast-count invariant-loop decreases-loop
 cast-count c = search rules
 
-pattern-refused-requires-2 : tie.Need-pattern-refused-requires-2 invariant-loop decreases-loop
+pattern-refused-requires-2 : tie.Need-pattern_refused-requires-then-count-lt1 invariant-loop decreases-loop
 pattern-refused-requires-2 c κs = search rules
 
-returns-2 : tie.Need-returns-2 invariant-loop decreases-loop
+returns-2 : tie.Need-returns-then-count-lt1 invariant-loop decreases-loop
 returns-2 c =
-    returns_refusal _ _ _ (count_refused _ _ (count-is c.before.before) (count-wrong c.before)) c.pattern-refused2.ensures.0
+    returns_refusal _ _ _ (count_refused _ _ (count-is c.before.before) (count-wrong c.before)) c.pattern_refused-then-count-lt1.ensures.0
 
-no-member-requires : tie.Need-no-member-requires invariant-loop decreases-loop
+no-member-requires : tie.Need-no_member-none-requires invariant-loop decreases-loop
 no-member-requires c κs = search rules
 
-loop-holds : tie.Need-loop-init invariant-loop decreases-loop
+loop-holds : tie.Need-loop-i-init invariant-loop decreases-loop
 loop-holds c = no_member_read (count_most c.before) refl refl refl
 
-read-member-requires : tie.Need-read-member-requires invariant-loop decreases-loop
+read-member-requires : tie.Need-read_member-requires invariant-loop decreases-loop
 read-member-requires c κs = search rules
 
-enum-known-number : tie.Need-enum-known-number invariant-loop decreases-loop
+enum-known-number : tie.Need-enum_known-number invariant-loop decreases-loop
 enum-known-number c = search rules
 
-pattern-refused-requires-3 : tie.Need-pattern-refused-requires-3 invariant-loop decreases-loop
+pattern-refused-requires-3 : tie.Need-pattern_refused-requires-in-Refused invariant-loop decreases-loop
 pattern-refused-requires-3 c κs = search rules
 
-returns-3 : tie.Need-returns-3 invariant-loop decreases-loop
+returns-3 : tie.Need-returns-in-Refused invariant-loop decreases-loop
 returns-3 c =
-    let n = c.before.before in
-    let m = n.before.before in
+    let m = c.before.before in
     let l = m.before in
     let k = l.before.before.before in
     returns_refusal _ _ _
     (triples_refused _ _ (count-is k.before.before) (count-right k)
-    (next_member_refused l.before.loop.invariant l.loop-test.true m.read-member.ensures n.number.given.1))
-    c.pattern-refused3.ensures.0
+    (next_member_refused l.loop-i.invariant l.loop-i-test.true m.read_member.ensures c.in-Refused.is))
+    c.pattern_refused-in-Refused.ensures.0
 
-enum-known-member : tie.Need-enum-known-member invariant-loop decreases-loop
+enum-known-member : tie.Need-enum_known-member invariant-loop decreases-loop
 enum-known-member c = search rules
 
-mul-members : tie.Need-overflow-mul-members invariant-loop decreases-loop
+mul-members : tie.Need-offset_bounds-members-i invariant-loop decreases-loop
 mul-members c = search rules
 
-array-set-from-members : tie.Need-array-set-from-members invariant-loop decreases-loop
+array-set-from-members : tie.Need-bounds-members-i invariant-loop decreases-loop
 array-set-from-members c = search rules
 
-mul-subjects : tie.Need-overflow-mul-subjects invariant-loop decreases-loop
+mul-subjects : tie.Need-offset_bounds-subjects-i invariant-loop decreases-loop
 mul-subjects c = search rules
 
-array-write-subjects : tie.Need-array-write-subjects invariant-loop decreases-loop
+array-write-subjects : tie.Need-bounds-subjects-i invariant-loop decreases-loop
 array-write-subjects c = search rules
 
-mul-objects : tie.Need-overflow-mul-objects invariant-loop decreases-loop
+mul-objects : tie.Need-offset_bounds-objects-i invariant-loop decreases-loop
 mul-objects c = search rules
 
-array-write-objects : tie.Need-array-write-objects invariant-loop decreases-loop
+array-write-objects : tie.Need-bounds-objects-i invariant-loop decreases-loop
 array-write-objects c = search rules
 
-add-i : tie.Need-overflow-add-i invariant-loop decreases-loop
+add-i : tie.Need-overflow_step-i invariant-loop decreases-loop
 add-i c = search rules
 
-loop-less : tie.Need-loop-smaller invariant-loop decreases-loop
+loop-less : tie.Need-loop-i-smaller invariant-loop decreases-loop
 loop-less c = search rules
 
-loop-again : tie.Need-loop-preserved invariant-loop decreases-loop
+loop-again : tie.Need-loop-i-preserved invariant-loop decreases-loop
 loop-again c =
-    let m = c.before.before.before in
+    let m = c.before in
     let l = m.before in
-    next_member_read l.before.loop.invariant l.loop-test.true m.read-member.ensures c.before.member.given.1
+    next_member_read l.loop-i.invariant l.loop-i-test.true m.read_member.ensures c.in-Member.is
 
-pattern-refused-requires-4 : tie.Need-pattern-refused-requires-4 invariant-loop decreases-loop
+pattern-refused-requires-4 : tie.Need-pattern_refused-requires-then-next-s invariant-loop decreases-loop
 pattern-refused-requires-4 c κs = search rules
 
-returns-4 : tie.Need-returns-4 invariant-loop decreases-loop
+returns-4 : tie.Need-returns-then-next-s invariant-loop decreases-loop
 returns-4 c =
     let l = c.before.before in
     let k = l.before.before.before in
     returns_refusal _ _ _
-    (bytes_left _ _ (count-is k.before.before) (count-right k) _ (every_member l.before.loop.invariant l.loop-test.false) c.before.if3.true)
-    c.pattern-refused4.ensures.0
+    (bytes_left _ _ (count-is k.before.before) (count-right k) _ (every_member l.loop-i.invariant l.loop-i-test.false) c.if-next-s.true)
+    c.pattern_refused-then-next-s.ensures.0
 
-returns-5 : tie.Need-returns-5 invariant-loop decreases-loop
+returns-5 : tie.Need-returns invariant-loop decreases-loop
 returns-5 c =
     let l = c.before in
     let k = l.before.before.before in
-    returns_pattern _ _ (count-is k.before.before) (count-right k) l.before.loop.invariant l.loop-test.false c.if3.false
+    returns_pattern _ _ (count-is k.before.before) (count-right k) l.loop-i.invariant l.loop-i-test.false c.if-next-s.false
 
-pub read-pattern-spec : {M : Type 1} → statement M
-read-pattern-spec =
+pub read_pattern_spec : {M : Type 1} → statement M
+read_pattern_spec =
     tie.close
     (tie.spec
     invariant-loop

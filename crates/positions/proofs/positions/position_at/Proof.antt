@@ -11,11 +11,11 @@ second : (column : ℕ) → (column ≡ 0 → ⊥) → column_of column ≡ obje
 second zero other = absurd (other refl)
 second (suc column) other = refl
 
-returns : tie.Need-returns
+returns : tie.Need-returns-then-column-eq0
 returns c = search rules
 
-returns-2 : tie.Need-returns-2
-returns-2 c = rw (second c.before.args.column c.if1.false) refl
+returns-2 : tie.Need-returns-else-column-eq0
+returns-2 c = rw (second c.args.column c.if-column-eq0.false) refl
 
-pub position-at-spec : {M : Type 1} → statement M
-position-at-spec = tie.close (tie.spec returns returns-2)
+pub position_at_spec : {M : Type 1} → statement M
+position_at_spec = tie.close (tie.spec returns returns-2)

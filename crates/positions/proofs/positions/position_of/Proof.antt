@@ -13,11 +13,11 @@ even-term n even = rw (eq-eqb (n % 2) 0 even) refl
 odd-variable : (n : ℕ) → (n % 2 ≡ 0 → ⊥) → Var (n / 2) ≡ position_of n
 odd-variable n odd = rw (ne_eqb (n % 2) 0 odd) refl
 
-returns : tie.Need-returns
-returns c = even-term _ c.if1.true
+returns : tie.Need-returns-then-n-eq0
+returns c = even-term _ c.if-n-eq0.true
 
-returns-2 : tie.Need-returns-2
-returns-2 c = odd-variable _ c.if1.false
+returns-2 : tie.Need-returns-else-n-eq0
+returns-2 c = odd-variable _ c.if-n-eq0.false
 
-pub position-of-spec : {M : Type 1} → statement M
-position-of-spec = tie.close (tie.spec returns returns-2)
+pub position_of_spec : {M : Type 1} → statement M
+position_of_spec = tie.close (tie.spec returns returns-2)

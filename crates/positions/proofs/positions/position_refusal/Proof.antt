@@ -24,27 +24,27 @@ not_next met v h =
     let b = leb-true v met x.1 in
     ⊎_elim (λ g. absurd (omega arith)) (λ g. absurd (omega arith)) h)
 
-enum-known-x : tie.Need-enum-known-x
+enum-known-x : tie.Need-enum_known-x
 enum-known-x c = search rules
 
-returns : tie.Need-returns
+returns : tie.Need-returns-then-t-gt-MOST_TERM
 unfolding ask_position_under ask
-returns c = rw (c.before.before.x.given.1, lt-leb _ _ c.if1.true) refl
+returns c = rw (c.in-Term.is, lt-leb _ _ c.if-t-gt-MOST_TERM.true) refl
 
-enum-known-x-2 : tie.Need-enum-known-x-2
+enum-known-x-2 : tie.Need-enum_known-x-in-Var-1
 enum-known-x-2 c = search rules
 
-returns-2 : tie.Need-returns-2
+returns-2 : tie.Need-returns-then-v-ge-MOST_VARIABLES
 unfolding ask_position_under ask
-returns-2 c = rw (c.before.before.x2.given.1, not_next _ _ (⊎_elim (λ w. inl w.taken) (λ w. inr (ltb-true _ _ w.1.taken)) c.if2.branch)) refl
+returns-2 c = rw (c.in-Var.is, not_next _ _ (⊎_elim (λ w. inl w.if-v-ge-MOST_VARIABLES.true) (λ w. inr (ltb-true _ _ w.if-met-v.true-raw)) c.then-v-ge-MOST_VARIABLES.branch-raw)) refl
 
-returns-3 : tie.Need-returns-3
+returns-3 : tie.Need-returns-else-t-gt-MOST_TERM
 unfolding ask_position_under ask
-returns-3 c = rw (c.before.before.x.given.1, le-leb _ _ c.if1.false) refl
+returns-3 c = rw (c.in-Term.is, le-leb _ _ c.if-t-gt-MOST_TERM.false) refl
 
-returns-4 : tie.Need-returns-4
+returns-4 : tie.Need-returns-else-met-v
 unfolding ask_position_under ask
-returns-4 c = rw (c.before.before.before.x2.given.1, lt-ltb _ _ c.before.if2.false, le-leb _ _ (ltb-false _ _ c.if3.false)) refl
+returns-4 c = rw (c.in-Var.is, lt-ltb _ _ c.if-v-ge-MOST_VARIABLES.false, le-leb _ _ (ltb-false _ _ c.if-met-v.false-raw)) refl
 
-pub position-refusal-spec : {M : Type 1} → statement M
-position-refusal-spec = tie.close (tie.spec enum-known-x returns enum-known-x-2 returns-2 returns-3 returns-4)
+pub position_refusal_spec : {M : Type 1} → statement M
+position_refusal_spec = tie.close (tie.spec enum-known-x returns enum-known-x-2 returns-2 returns-3 returns-4)

@@ -3,32 +3,32 @@ use borrow.Author.Rules.{rules}
 use Rattle.positions.proofs.positions.same_variable.Statement.{statement}
 use Rattle.positions.proofs.positions.same_variable.Tie as tie
 
-enum_told : tie.Need-enum-told
+enum_told : tie.Need-enum_told-1
 enum_told c = search rules
 
-enum-told-2 : tie.Need-enum-told-2
+enum-told-2 : tie.Need-enum_told-in-Term-y
 enum-told-2 c = search rules
 
-enum-told-3 : tie.Need-enum-told-3
+enum-told-3 : tie.Need-enum_told-in-Var-y
 enum-told-3 c = search rules
 
-enum-known-x : tie.Need-enum-known-x
+enum-known-x : tie.Need-enum_known-x
 enum-known-x c = search rules
 
-is-variable-requires : tie.Need-is-variable-requires
+is-variable-requires : tie.Need-is_variable-requires
 is-variable-requires c κs = search rules
 
-returns : tie.Need-returns
+returns : tie.Need-returns-in-Term-y
 returns c = search rules
 
-returns-2 : tie.Need-returns-2
+returns-2 : tie.Need-returns-in-Var-y
 returns-2 c = search rules
 
-returns-3 : tie.Need-returns-3
-returns-3 c = rw c.before.before.x.given.1 c.is_variable.ensures
+returns-3 : tie.Need-returns-in-Var
+returns-3 c = rw c.in-Var.is c.is_variable.ensures
 
-pub same-variable-spec : {M : Type 1} → statement M
-same-variable-spec =
+pub same_variable_spec : {M : Type 1} → statement M
+same_variable_spec =
     tie.close
     (tie.spec
     enum_told

@@ -12,16 +12,16 @@ use Rattle.statistics.proofs.Partnered.{passing-more}
 use Rattle.probes.proofs.counting.count_common.Statement.{statement}
 use Rattle.probes.proofs.counting.count_common.Tie as tie
 
-abbrev invariant-loop : tie.invariant-loop
+abbrev invariant-loop : tie.invariant-loop-i
 invariant-loop own from step m words base stride n slots common₀ place₀ i₀ common place i =
     (i ≤ m) × (common ≤ i) × (place ≤ n)
     × (common ≡ passing own from step i (has_word words base stride n))
     × ((j k : ℕ) → j < place → i ≤ k → k < m → word_at words base stride j < word_at own from step k)
 
-abbrev decreases-loop : tie.decreases-loop
+abbrev decreases-loop : tie.decreases-loop-i
 decreases-loop own from step m words base stride n slots common₀ place₀ i₀ common place i = m - i
 
-loop-holds : tie.Need-loop-init invariant-loop decreases-loop
+loop-holds : tie.Need-loop-i-init invariant-loop decreases-loop
 unfolding passing
 loop-holds c = (omega arith, omega arith, omega arith, refl, λ j k h l b. absurd (omega arith))
 
@@ -29,58 +29,58 @@ loop-holds c = (omega arith, omega arith, omega arith, refl, λ j k h l b. absur
 own-inside : {i : ℕ} (c : tie.Start invariant-loop decreases-loop) → i < c.args.m → c.args.from + c.args.step * i < length c.args.own.now
 own-inside c h = word_inside c.requires.0 h
 
-mul-value : tie.Need-overflow-mul-value invariant-loop decreases-loop
-mul-value c = omega (arith, own-inside c.before.before.before.before.before c.loop-test.true)
+mul-value : tie.Need-overflow_mul-value invariant-loop decreases-loop
+mul-value c = omega (arith, own-inside c.before.before.before.before.before c.loop-i-test.true)
 
-add-value : tie.Need-overflow-add-value invariant-loop decreases-loop
-add-value c = omega (arith, own-inside c.before.before.before.before.before c.loop-test.true)
+add-value : tie.Need-overflow_add-value invariant-loop decreases-loop
+add-value c = omega (arith, own-inside c.before.before.before.before.before c.loop-i-test.true)
 
-mul-value-2 : tie.Need-overflow-mul-value-2 invariant-loop decreases-loop
-mul-value-2 c = omega (arith, own-inside c.before.before.before.before.before c.loop-test.true)
+mul-value-2 : tie.Need-offset_bounds-own-from invariant-loop decreases-loop
+mul-value-2 c = omega (arith, own-inside c.before.before.before.before.before c.loop-i-test.true)
 
-shared-slice-read-value : tie.Need-shared-slice-read-value invariant-loop decreases-loop
+shared-slice-read-value : tie.Need-bounds-own-from invariant-loop decreases-loop
 shared-slice-read-value c = own-inside c.before.before.before.before.before.before (omega arith)
 
-walk-to-requires : tie.Need-walk-to-requires invariant-loop decreases-loop
+walk-to-requires : tie.Need-walk_to-met-requires invariant-loop decreases-loop
 walk-to-requires c κs =
     let s = c.before.before.before.before.before.before in
-    let inv = c.before.before.loop.invariant in
+    let inv = c.loop-i.invariant in
     (s.requires.1, record { within = inv.2; lower = λ j h. inv.4 j _ h (omega arith) (omega arith) })
 
-add-common : tie.Need-overflow-add-common invariant-loop decreases-loop
+add-common : tie.Need-overflow_add-common invariant-loop decreases-loop
 add-common c = omega arith
 
-add-i : tie.Need-overflow-add-i invariant-loop decreases-loop
+add-i : tie.Need-overflow_step-i invariant-loop decreases-loop
 add-i c = omega arith
 
-loop-less : tie.Need-loop-smaller invariant-loop decreases-loop
+loop-less : tie.Need-loop-i-smaller invariant-loop decreases-loop
 loop-less c = omega arith
 
-loop-again : tie.Need-loop-preserved invariant-loop decreases-loop
+loop-again : tie.Need-loop-i-preserved invariant-loop decreases-loop
 loop-again c =
     let l = c.before.before.before.before in
     let s = l.before.before.before.before in
     let a = s.args in
     let among = has_word a.words.now a.base a.stride a.n in
-    let met = c.before.walk-to.ensures in
-    let more = passing-more a.own.now a.from a.step l.loop.i among in (
+    let met = c.walk_to-met.ensures in
+    let more = passing-more a.own.now a.from a.step l.loop-i.i among in (
       omega arith,
-      ⊎_elim (λ w. omega arith) (λ w. omega arith) c.if1.branch,
+      ⊎_elim (λ w. omega arith) (λ w. omega arith) c.if-met.branch-raw,
       met.1.within,
       ⊎_elim
-          (λ w. omega (arith, more, ap num (sym met.0 ∙ w.0.taken), l.loop.invariant.3, w.1))
-          (λ w. omega (arith, more, ap num (sym met.0 ∙ w.0.left), l.loop.invariant.3, w.1))
-          c.if1.branch,
-      λ j k h after in-own. omega (arith, met.1.lower j h, s.requires.0.ascending l.loop.i k (omega arith) in-own),
+          (λ w. omega (arith, more, ap num (sym met.0 ∙ w.if-met.true), l.loop-i.invariant.3, w.common-is))
+          (λ w. omega (arith, more, ap num (sym met.0 ∙ w.if-met.false), l.loop-i.invariant.3, w.common-is))
+          c.if-met.branch-raw,
+      λ j k h after in-own. omega (arith, met.1.lower j h, s.requires.0.ascending l.loop-i.i k (omega arith) in-own),
     )
 
 returns : tie.Need-returns invariant-loop decreases-loop
 returns c =
-    let all : c.before.loop.i ≡ c.before.before.before.before.before.args.m = omega arith in
-    rw all at c.before.loop.invariant.3
+    let all : c.loop-i.i ≡ c.args.m = omega arith in
+    rw all at c.loop-i.invariant.3
 
-pub count-common-spec : {M : Type 1} → statement M
-count-common-spec =
+pub count_common_spec : {M : Type 1} → statement M
+count_common_spec =
     tie.close
     (tie.spec
     invariant-loop

@@ -6,19 +6,19 @@ use Rattle.probes.specs.OneHashFilter.{may_contain}
 use Rattle.probes.proofs.one_hash_filter.may_contain.Statement.{statement}
 use Rattle.probes.proofs.one_hash_filter.may_contain.Tie as tie
 
-returns : tie.Need-returns
+returns : tie.Need-returns-then-slots-ne1024
 unfolding may_contain
-returns c = rw (ne_eqb _ _ c.if1.true) refl
+returns c = rw (ne_eqb _ _ c.if-slots-ne1024.true) refl
 
-cast-result : tie.Need-overflow-cast-result
+cast-result : tie.Need-overflow_cast-result
 cast-result c = search rules
 
-shared-slice-read-result : tie.Need-shared-slice-read-result
+shared-slice-read-result : tie.Need-bounds-slots-value
 shared-slice-read-result c = search rules
 
-returns-2 : tie.Need-returns-2
+returns-2 : tie.Need-returns
 unfolding may_contain
-returns-2 c = rw c.before.if1.false refl
+returns-2 c = rw c.if-slots-ne1024.false refl
 
-pub may-contain-spec : {M : Type 1} → statement M
-may-contain-spec = tie.close (tie.spec returns cast-result shared-slice-read-result returns-2)
+pub may_contain_spec : {M : Type 1} → statement M
+may_contain_spec = tie.close (tie.spec returns cast-result shared-slice-read-result returns-2)

@@ -11,10 +11,10 @@ use Rattle.tables.proofs.Partners.{has_partner, partner_found, no_partner_yet, r
 use Rattle.reducing.proofs.semi_join_count.count_semi_join.Statement.{statement}
 use Rattle.reducing.proofs.semi_join_count.count_semi_join.Tie as tie
 
-abbrev invariant-loop : tie.invariant-loop
+abbrev invariant-loop : tie.invariant-loop-j
 invariant-loop w p m own q n other left₀ i row value j₀ left j = (j ≤ n) × (left ≡ left₀) × (has_partner w p row own q j other ≡ false)
 
-abbrev decreases-loop : tie.decreases-loop
+abbrev decreases-loop : tie.decreases-loop-j
 decreases-loop w p m own q n other left₀ i row value j₀ left j = n - j
 
 abbrev invariant-rows : tie.invariant-rows
@@ -27,25 +27,25 @@ rows-holds : tie.Need-rows-init invariant-loop decreases-loop invariant-rows dec
 unfolding left_rows semi_join
 rows-holds c = (search rules, search rules, refl)
 
-add-i : tie.Need-overflow-add-i invariant-loop decreases-loop invariant-rows decreases-rows
+add-i : tie.Need-overflow_add-i invariant-loop decreases-loop invariant-rows decreases-rows
 add-i c = search rules
 
-mul-value : tie.Need-overflow-mul-value invariant-loop decreases-loop invariant-rows decreases-rows
+mul-value : tie.Need-overflow_mul-value invariant-loop decreases-loop invariant-rows decreases-rows
 mul-value c = search rules
 
-add-value : tie.Need-overflow-add-value invariant-loop decreases-loop invariant-rows decreases-rows
+add-value : tie.Need-overflow_add-value invariant-loop decreases-loop invariant-rows decreases-rows
 add-value c = search rules
 
-add-value-2 : tie.Need-overflow-add-value-2 invariant-loop decreases-loop invariant-rows decreases-rows
+add-value-2 : tie.Need-overflow_add-value-in-rows invariant-loop decreases-loop invariant-rows decreases-rows
 add-value-2 c = search rules
 
-mul-value-2 : tie.Need-overflow-mul-value-2 invariant-loop decreases-loop invariant-rows decreases-rows
+mul-value-2 : tie.Need-offset_bounds-w-p invariant-loop decreases-loop invariant-rows decreases-rows
 mul-value-2 c = search rules
 
-shared-slice-read-value : tie.Need-shared-slice-read-value invariant-loop decreases-loop invariant-rows decreases-rows
+shared-slice-read-value : tie.Need-bounds-w-p invariant-loop decreases-loop invariant-rows decreases-rows
 shared-slice-read-value c = search rules
 
-loop-holds : tie.Need-loop-init invariant-loop decreases-loop invariant-rows decreases-rows
+loop-holds : tie.Need-loop-j-init invariant-loop decreases-loop invariant-rows decreases-rows
 unfolding has_partner
 loop-holds c = (search rules, refl, refl)
 
@@ -56,60 +56,60 @@ rows-again : tie.Need-rows-preserved invariant-loop decreases-loop invariant-row
 rows-again c =
     let inner = c.before in
     let outer = inner.before.before.before in
-    let all : inner.loop.j ≡ outer.before.args.o.partners = omega arith in
-    (search rules, search rules, rw (inner.loop.invariant.1, row_not_left _ _ _ _ _ _ _ (omega arith) (rw all at inner.loop.invariant.2)) outer.rows.invariant.2)
+    let all : inner.loop-j.j ≡ outer.args.o.partners = omega arith in
+    (search rules, search rules, rw (inner.loop-j.invariant.1, row_not_left _ _ _ _ _ _ _ (omega arith) (rw all at inner.loop-j.invariant.2)) outer.rows.invariant.2)
 
-mul-other-value : tie.Need-overflow-mul-other-value invariant-loop decreases-loop invariant-rows decreases-rows
+mul-other-value : tie.Need-overflow_mul-other_value invariant-loop decreases-loop invariant-rows decreases-rows
 mul-other-value c = search rules
 
-add-other-value : tie.Need-overflow-add-other-value invariant-loop decreases-loop invariant-rows decreases-rows
+add-other-value : tie.Need-overflow_add-other_value invariant-loop decreases-loop invariant-rows decreases-rows
 add-other-value c = search rules
 
-add-other-value-2 : tie.Need-overflow-add-other-value-2 invariant-loop decreases-loop invariant-rows decreases-rows
+add-other-value-2 : tie.Need-overflow_add-other_value-in-loop-j invariant-loop decreases-loop invariant-rows decreases-rows
 add-other-value-2 c = search rules
 
-mul-other-value-2 : tie.Need-overflow-mul-other-value-2 invariant-loop decreases-loop invariant-rows decreases-rows
+mul-other-value-2 : tie.Need-offset_bounds-w-q invariant-loop decreases-loop invariant-rows decreases-rows
 mul-other-value-2 c = search rules
 
-shared-slice-read-other-value : tie.Need-shared-slice-read-other-value invariant-loop decreases-loop invariant-rows decreases-rows
+shared-slice-read-other-value : tie.Need-bounds-w-q invariant-loop decreases-loop invariant-rows decreases-rows
 shared-slice-read-other-value c = search rules
 
-add-j : tie.Need-overflow-add-j invariant-loop decreases-loop invariant-rows decreases-rows
+add-j : tie.Need-overflow_add-j invariant-loop decreases-loop invariant-rows decreases-rows
 add-j c = search rules
 
-add_left : tie.Need-overflow-add-left invariant-loop decreases-loop invariant-rows decreases-rows
+add_left : tie.Need-overflow_add-left invariant-loop decreases-loop invariant-rows decreases-rows
 add_left c = search rules
 
 -- no partner: nothing is counted; stands before the partner, so that continuing this loop there is refused by the count
-loop-less : tie.Need-loop-smaller invariant-loop decreases-loop invariant-rows decreases-rows
+loop-less : tie.Need-loop-j-smaller invariant-loop decreases-loop invariant-rows decreases-rows
 loop-less c = search rules
 
-loop-again : tie.Need-loop-preserved invariant-loop decreases-loop invariant-rows decreases-rows
+loop-again : tie.Need-loop-j-preserved invariant-loop decreases-loop invariant-rows decreases-rows
 loop-again c =
     let inner = c.before.before.before in
-    let pre = inner.before.before.before.before.requires in
-    (search rules, inner.loop.invariant.1, no_partner_yet _ _ _ _ _ _ pre.2 pre.3 _ (omega arith) c.if1.false inner.loop.invariant.2)
+    let pre = inner.requires in
+    (search rules, inner.loop-j.invariant.1, no_partner_yet _ _ _ _ _ _ pre.2 pre.3 _ (omega arith) c.if-other_value-value.false inner.loop-j.invariant.2)
 
 -- a partner: the row is counted, and the next row follows
-rows-less-2 : tie.Need-rows-smaller-2 invariant-loop decreases-loop invariant-rows decreases-rows
+rows-less-2 : tie.Need-rows-smaller-then-other_value-value invariant-loop decreases-loop invariant-rows decreases-rows
 rows-less-2 c = search rules
 
-rows-again-2 : tie.Need-rows-preserved-2 invariant-loop decreases-loop invariant-rows decreases-rows
+rows-again-2 : tie.Need-rows-preserved-then-other_value-value invariant-loop decreases-loop invariant-rows decreases-rows
 rows-again-2 c =
     let inner = c.before.before.before in
     let outer = inner.before.before.before in
-    let args = outer.before.args in
-    let pre = outer.before.requires in
-    let found = partner_found args.w.now args.o.start outer.rows.i args.o.own args.o.against args.o.other pre.2 pre.3 inner.loop.j args.o.partners c.before.before.loop-test.true pre.1 c.if1.true in
-    (search rules, search rules, rw (inner.loop.invariant.1, row-left _ _ _ _ _ _ _ found (omega arith), length-append) (omega arith))
+    let args = outer.args in
+    let pre = outer.requires in
+    let found = partner_found args.w.now args.o.start outer.rows.i args.o.own args.o.against args.o.other pre.2 pre.3 inner.loop-j.j args.o.partners c.loop-j-test.true pre.1 c.if-other_value-value.true in
+    (search rules, search rules, rw (inner.loop-j.invariant.1, row-left _ _ _ _ _ _ _ found (omega arith), length-append) (omega arith))
 
 returns : tie.Need-returns invariant-loop decreases-loop invariant-rows decreases-rows
 returns c =
-    let all : c.before.rows.i ≡ c.before.before.args.o.rows = omega arith in
-    rw all at c.before.rows.invariant.2
+    let all : c.rows.i ≡ c.args.o.rows = omega arith in
+    rw all at c.rows.invariant.2
 
-pub count-semi-join-spec : {M : Type 1} → statement M
-count-semi-join-spec =
+pub count_semi_join_spec : {M : Type 1} → statement M
+count_semi_join_spec =
     tie.close
     (tie.spec
     invariant-loop

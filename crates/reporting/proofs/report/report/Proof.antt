@@ -5,63 +5,63 @@ use Rattle.model.specs.Calls.{number_of, values_of}
 use Rattle.reporting.proofs.report.report.Statement.{statement}
 use Rattle.reporting.proofs.report.report.Tie as tie
 
-enum-known-answer : tie.Need-enum-known-answer
+enum-known-answer : tie.Need-enum_known-answer
 enum-known-answer c = search rules
 
-cast-t12 : tie.Need-overflow-cast-t12
+cast-t12 : tie.Need-overflow_cast-words
 cast-t12 c = search rules
 
-enum_told : tie.Need-enum-told
+enum_told : tie.Need-enum_told-1
 enum_told c = search rules
 
-enum-known-answer-2 : tie.Need-enum-known-answer-2
+enum-known-answer-2 : tie.Need-enum_known-answer-in-Built-1
 enum-known-answer-2 c = search rules
 
-cast-t13 : tie.Need-overflow-cast-t13
+cast-t13 : tie.Need-overflow_cast-words-in-Built
 cast-t13 c = search rules
 
-enum-told-2 : tie.Need-enum-told-2
+enum-told-2 : tie.Need-enum_told-in-Plan
 enum-told-2 c = search rules
 
-enum-told-3 : tie.Need-enum-told-3
+enum-told-3 : tie.Need-enum_told-in-Yes
 enum-told-3 c = search rules
 
-enum-told-4 : tie.Need-enum-told-4
+enum-told-4 : tie.Need-enum_told-in-No
 enum-told-4 c = search rules
 
-enum-known-answer-3 : tie.Need-enum-known-answer-3
+enum-known-answer-3 : tie.Need-enum_known-answer-in-Refused-1
 enum-known-answer-3 c = search rules
 
-returns : tie.Need-returns
+returns : tie.Need-returns-in-Rows
 unfolding number_of values_of
-returns c = rw c.before.answer.given.1 (refl, refl)
+returns c = rw c.in-Rows.is (refl, refl)
 
-returns-2 : tie.Need-returns-2
+returns-2 : tie.Need-returns-in-None
 unfolding number_of values_of
-returns-2 c = rw c.before.enum_told.given.1 (refl, refl)
+returns-2 c = rw c.in-None.is (refl, refl)
 
-returns-3 : tie.Need-returns-3
+returns-3 : tie.Need-returns-in-Built
 unfolding number_of values_of
-returns-3 c = rw c.before.answer2.given.1 (refl, refl)
+returns-3 c = rw c.in-Built.is (refl, refl)
 
-returns-4 : tie.Need-returns-4
+returns-4 : tie.Need-returns-in-Plan
 unfolding number_of values_of
-returns-4 c = rw c.enum-told2.given.1 (refl, refl)
+returns-4 c = rw c.in-Plan.is (refl, refl)
 
-returns-5 : tie.Need-returns-5
+returns-5 : tie.Need-returns-in-Yes
 unfolding number_of values_of
-returns-5 c = rw c.before.enum-told3.given.1 (refl, refl)
+returns-5 c = rw c.in-Yes.is (refl, refl)
 
-returns-6 : tie.Need-returns-6
+returns-6 : tie.Need-returns-in-No
 unfolding number_of values_of
-returns-6 c = rw c.before.enum-told4.given.1 (refl, refl)
+returns-6 c = rw c.in-No.is (refl, refl)
 
-returns-7 : tie.Need-returns-7
+returns-7 : tie.Need-returns-in-Refused
 unfolding number_of values_of
-returns-7 c = rw c.before.answer3.given.1 (refl, refl)
+returns-7 c = rw c.in-Refused.is (refl, refl)
 
-pub report-spec : {M : Type 1} → statement M
-report-spec =
+pub report_spec : {M : Type 1} → statement M
+report_spec =
     tie.close
     (tie.spec
     enum-known-answer

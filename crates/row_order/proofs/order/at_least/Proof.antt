@@ -17,14 +17,14 @@ by_cases a b n one none = go (leb b a) refl
     go true e = one (leb-true b a e)
     go false e = none (leb-false b a e)
 
-add-result : tie.Need-overflow-add-result
+add-result : tie.Need-overflow_add-result
 add-result c = search rules
 
-sub-result : tie.Need-overflow-sub-result
+sub-result : tie.Need-overflow_sub-result
 sub-result c = search rules
 
 returns : tie.Need-returns
 returns c = (by_cases c.args.a c.args.b _ (λ h. omega arith) (λ h. omega arith), omega arith)
 
-pub at-least-spec : {M : Type 1} → statement M
-at-least-spec = tie.close (tie.spec add-result sub-result returns)
+pub at_least_spec : {M : Type 1} → statement M
+at_least_spec = tie.close (tie.spec add-result sub-result returns)

@@ -16,10 +16,10 @@ use Rattle.row_order.proofs.Proper.{row_more, word_passes, sum_before, sum_not_b
 use Rattle.row_order.proofs.order.rows_ascend.Statement.{statement}
 use Rattle.row_order.proofs.order.rows_ascend.Tie as tie
 
-abbrev invariant-loop : tie.invariant-loop
+abbrev invariant-loop : tie.invariant-loop-i
 invariant-loop w start n ascending₀ i₀ ascending i = (0 < i) × (i ≤ n) × (ascending ≡ ascends row_before (rows_in i (drop start w)))
 
-abbrev decreases-loop : tie.decreases-loop
+abbrev decreases-loop : tie.decreases-loop-i
 decreases-loop w start n ascending₀ i₀ ascending i = n - i
 
 -- each word of the rows is a term
@@ -29,96 +29,96 @@ term-at s x low high =
     let place : a.start + (x - a.start) ≡ x = omega arith in
     leb-true _ _ (rw place at (word_passes is_term a.w.now a.start (2 * a.n) (x - a.start) s.requires.1 s.requires.2 (omega arith)))
 
-loop-holds : tie.Need-loop-init invariant-loop decreases-loop
+loop-holds : tie.Need-loop-i-init invariant-loop decreases-loop
 loop-holds c =
-    let a = c.before.args in
+    let a = c.args in
     (omega arith, omega arith, rw (rows_at_lem a.w.now a.start 0 0 (omega arith)) refl)
 
-mul-here : tie.Need-overflow-mul-here invariant-loop decreases-loop
+mul-here : tie.Need-overflow_mul-here invariant-loop decreases-loop
 mul-here c = search rules
 
-add-here : tie.Need-overflow-add-here invariant-loop decreases-loop
+add-here : tie.Need-overflow_add-here invariant-loop decreases-loop
 add-here c = search rules
 
-sub-at-least : tie.Need-overflow-sub-at-least invariant-loop decreases-loop
+sub-at-least : tie.Need-overflow_sub-here invariant-loop decreases-loop
 sub-at-least c = search rules
 
-mul-at-least : tie.Need-overflow-mul-at-least invariant-loop decreases-loop
+mul-at-least : tie.Need-offset_bounds-w-here invariant-loop decreases-loop
 mul-at-least c = search rules
 
-shared-slice-read-at-least : tie.Need-shared-slice-read-at-least invariant-loop decreases-loop
+shared-slice-read-at-least : tie.Need-bounds-w-here invariant-loop decreases-loop
 shared-slice-read-at-least c = search rules
 
-add-at-least : tie.Need-overflow-add-at-least invariant-loop decreases-loop
+add-at-least : tie.Need-overflow_add-here-in-loop-i invariant-loop decreases-loop
 add-at-least c = search rules
 
-mul-at-least-2 : tie.Need-overflow-mul-at-least-2 invariant-loop decreases-loop
+mul-at-least-2 : tie.Need-offset_bounds-w-here-in-loop-i invariant-loop decreases-loop
 mul-at-least-2 c = search rules
 
-shared-slice-read-at-least-2 : tie.Need-shared-slice-read-at-least-2 invariant-loop decreases-loop
+shared-slice-read-at-least-2 : tie.Need-bounds-w-here-in-loop-i invariant-loop decreases-loop
 shared-slice-read-at-least-2 c = search rules
 
-at-least-requires : tie.Need-at-least-requires invariant-loop decreases-loop
+at-least-requires : tie.Need-at_least-more-requires invariant-loop decreases-loop
 at-least-requires c κs =
     let turn = c.before.before in
     let start = turn.before.before.before in
-    let later = turn.before.loop.invariant.0 in
-    let below = turn.loop-test.true in
+    let later = turn.loop-i.invariant.0 in
+    let below = turn.loop-i-test.true in
     (term-at start _ (omega arith) (omega arith), term-at start _ (omega arith) (omega arith))
 
-mul-if1 : tie.Need-overflow-mul-if1 invariant-loop decreases-loop
+mul-if1 : tie.Need-offset_bounds-w-here-in-loop-i-2 invariant-loop decreases-loop
 mul-if1 c = search rules
 
-shared-slice-read-if1 : tie.Need-shared-slice-read-if1 invariant-loop decreases-loop
+shared-slice-read-if1 : tie.Need-bounds-w-here-in-loop-i-2 invariant-loop decreases-loop
 shared-slice-read-if1 c = search rules
 
-sub-if1 : tie.Need-overflow-sub-if1 invariant-loop decreases-loop
+sub-if1 : tie.Need-overflow_sub-here-in-loop-i invariant-loop decreases-loop
 sub-if1 c = search rules
 
-mul-if1-2 : tie.Need-overflow-mul-if1-2 invariant-loop decreases-loop
+mul-if1-2 : tie.Need-offset_bounds-w-here-in-loop-i-3 invariant-loop decreases-loop
 mul-if1-2 c = search rules
 
-shared-slice-read-if1-2 : tie.Need-shared-slice-read-if1-2 invariant-loop decreases-loop
+shared-slice-read-if1-2 : tie.Need-bounds-w-here-in-loop-i-3 invariant-loop decreases-loop
 shared-slice-read-if1-2 c = search rules
 
-add-if1 : tie.Need-overflow-add-if1 invariant-loop decreases-loop
+add-if1 : tie.Need-overflow_add-w invariant-loop decreases-loop
 add-if1 c =
     let called = c.before.before in
     let turn = called.before.before.before in
     let start = turn.before.before.before in
-    let later = turn.before.loop.invariant.0 in
-    let below = turn.loop-test.true in
-    omega (arith, called.at_least_lem.ensures.1, term-at start (start.args.start + 2 * turn.before.loop.i - 2) (omega arith) (omega arith))
+    let later = turn.loop-i.invariant.0 in
+    let below = turn.loop-i-test.true in
+    omega (arith, called.at_least-more.ensures.1, term-at start (start.args.start + 2 * turn.loop-i.i - 2) (omega arith) (omega arith))
 
-add-i : tie.Need-overflow-add-i invariant-loop decreases-loop
+add-i : tie.Need-overflow_step-i invariant-loop decreases-loop
 add-i c = search rules
 
-loop-less : tie.Need-loop-smaller invariant-loop decreases-loop
+loop-less : tie.Need-loop-i-smaller invariant-loop decreases-loop
 loop-less c = search rules
 
-loop-again : tie.Need-loop-preserved invariant-loop decreases-loop
+loop-again : tie.Need-loop-i-preserved invariant-loop decreases-loop
 loop-again c =
     let called = c.before.before.before in
     let l = called.before.before.before.before in
-    let a = l.before.before.args in
-    let later = l.loop.invariant.0 in
-    let more = row_more a.w.now a.start l.loop.i later (omega arith) in
-    let sum = called.at_least_lem.ensures.0 in (
+    let a = l.args in
+    let later = l.loop-i.invariant.0 in
+    let more = row_more a.w.now a.start l.loop-i.i later (omega arith) in
+    let sum = called.at_least-more.ensures.0 in (
       omega arith,
       omega arith,
       ⊎_elim
-          (λ w. rw (w.1, more, sum_not_before _ _ _ _ (rw sum at w.0.taken), and-false) refl)
-          (λ w. rw (w.1, more, sum_before _ _ _ _ (rw sum at w.0.left), and-true) l.loop.invariant.2)
-          c.if1.branch,
+          (λ w. rw (w.ascending-is, more, sum_not_before _ _ _ _ (rw sum at w.if-w-here.true), and-false) refl)
+          (λ w. rw (w.ascending-is, more, sum_before _ _ _ _ (rw sum at w.if-w-here.false), and-true) l.loop-i.invariant.2)
+          c.if-w-here.branch-raw,
     )
 
 returns : tie.Need-returns invariant-loop decreases-loop
 returns c =
-    let all_asked : c.before.loop.i ≡ c.before.before.before.args.n = omega arith in
-    rw all_asked at c.before.loop.invariant.2
+    let all_asked : c.loop-i.i ≡ c.args.n = omega arith in
+    rw all_asked at c.loop-i.invariant.2
 
-pub rows-ascend-spec : {M : Type 1} → statement M
-rows-ascend-spec =
+pub rows_ascend_spec : {M : Type 1} → statement M
+rows_ascend_spec =
     tie.close
     (tie.spec
     invariant-loop

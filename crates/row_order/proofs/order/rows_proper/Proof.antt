@@ -11,32 +11,32 @@ use Rattle.row_order.proofs.order.rows_proper.Tie as tie
 inside : (s : tie.Start) → 2 * s.args.n ≤ length (drop s.args.start s.args.w.now)
 inside s = omega (arith, s.requires, length-drop s.args.start s.args.w.now)
 
-returns : tie.Need-returns
+returns : tie.Need-returns-then-n-eq0
 returns c = search rules
 
-mul-all-at-most : tie.Need-overflow-mul-all-at-most
+mul-all-at-most : tie.Need-overflow_mul-n
 mul-all-at-most c = search rules
 
-all-at-most-requires : tie.Need-all-at-most-requires
+all-at-most-requires : tie.Need-all_at_most-requires
 all-at-most-requires c κs = search rules
 
-rows-ascend-requires : tie.Need-rows-ascend-requires
+rows-ascend-requires : tie.Need-rows_ascend-requires
 rows-ascend-requires c κs =
-    let h = c.before.before.if1.false in
-    (omega arith, c.before.before.before.before.requires, sym c.before.all-at-most.ensures ∙ c.if2.true)
+    let h = c.if-n-eq0.false in
+    (omega arith, c.requires, sym c.all_at_most.ensures ∙ c.if-all_at_most.true)
 
-returns-2 : tie.Need-returns-2
+returns-2 : tie.Need-returns-then-all_at_most
 returns-2 c =
     let t = c.before in
     let s = t.before.before.before.before in
-    c.rows_ascend.ensures ∙ rw (← proper_rows_lem _ _ (inside s), sym t.before.all-at-most.ensures ∙ t.if2.true) refl
+    c.rows_ascend.ensures ∙ rw (← proper_rows_lem _ _ (inside s), sym t.all_at_most.ensures ∙ t.if-all_at_most.true) refl
 
-returns-3 : tie.Need-returns-3
+returns-3 : tie.Need-returns-else-all_at_most
 returns-3 c =
     let s = c.before.before.before.before in
-    c.if2.false ∙ rw (← proper_rows_lem _ _ (inside s), sym c.before.all-at-most.ensures ∙ c.if2.false) refl
+    c.if-all_at_most.false ∙ rw (← proper_rows_lem _ _ (inside s), sym c.all_at_most.ensures ∙ c.if-all_at_most.false) refl
 
-pub rows-proper-spec : {M : Type 1} → statement M
-rows-proper-spec =
+pub rows_proper_spec : {M : Type 1} → statement M
+rows_proper_spec =
     tie.close
     (tie.spec returns mul-all-at-most all-at-most-requires rows-ascend-requires returns-2 returns-3)

@@ -23,38 +23,38 @@ all-below c last = record {
   others = λ i h l. absurd (omega arith);
 }
 
-sub-if2 : tie.Need-overflow-sub-if2
+sub-if2 : tie.Need-overflow_sub-n
 sub-if2 c = search rules
 
-mul-if2 : tie.Need-overflow-mul-if2
+mul-if2 : tie.Need-overflow_mul-stride
 mul-if2 c = omega (arith, last-inside c.before.before (omega arith))
 
-add-if2 : tie.Need-overflow-add-if2
+add-if2 : tie.Need-overflow_add-base
 add-if2 c = omega (arith, last-inside c.before.before (omega arith))
 
-mul-if2-2 : tie.Need-overflow-mul-if2-2
+mul-if2-2 : tie.Need-offset_bounds-words-base
 mul-if2-2 c = omega (arith, last-inside c.before.before (omega arith))
 
-shared-slice-read-if2 : tie.Need-shared-slice-read-if2
+shared-slice-read-if2 : tie.Need-bounds-words-base
 shared-slice-read-if2 c = last-inside c.before.before.before (omega arith)
 
-returns : tie.Need-returns
-returns c = all-below c.before.before (λ some. ⊎_elim (λ w. absurd (omega (arith, w.taken))) (λ w. leb-true _ _ w.2.taken) c.if1.branch)
+returns : tie.Need-returns-then-n-eq0
+returns c = all-below c.before.before (λ some. ⊎_elim (λ w. absurd (omega (arith, w.if-n-eq0.true))) (λ w. leb-true _ _ w.if-words-base.true-raw) c.then-n-eq0.branch-raw)
 
-add-guessed-lower-bound : tie.Need-overflow-add-guessed-lower-bound
+add-guessed-lower-bound : tie.Need-overflow_add-value
 add-guessed-lower-bound c =
     let a = c.before.before.before.before.args in
-    let above = leb-false (word_at a.words.now a.base a.stride (a.n - 1)) a.value c.if2.false in
-    omega (arith, c.before.shared-slice-known2.given (a.base + a.stride * (a.n - 1)))
+    let above = leb-false (word_at a.words.now a.base a.stride (a.n - 1)) a.value c.if-words-base.false-raw in
+    omega (arith, c.before.shared_slice_known-else-n-eq0-1.given (a.base + a.stride * (a.n - 1)))
 
-guessed-lower-bound-requires : tie.Need-guessed-lower-bound-requires
+guessed-lower-bound-requires : tie.Need-guessed_lower_bound-requires
 guessed-lower-bound-requires c κs = search rules
 
-returns-2 : tie.Need-returns-2
+returns-2 : tie.Need-returns
 returns-2 c = search rules
 
-pub upper-bound-spec : {M : Type 1} → statement M
-upper-bound-spec =
+pub upper_bound_spec : {M : Type 1} → statement M
+upper_bound_spec =
     tie.close
     (tie.spec
     sub-if2

@@ -11,39 +11,39 @@ use Rattle.semi_join_validation.specs.Joins.{empty_pair}
 use Rattle.semi_join_validation.proofs.empty_pairs.is_empty_pair.Statement.{statement}
 use Rattle.semi_join_validation.proofs.empty_pairs.is_empty_pair.Tie as tie
 
-kinds-apart-requires : tie.Need-kinds-apart-requires
+kinds-apart-requires : tie.Need-kinds_apart-requires
 kinds-apart-requires c κs =
-    let pre = c.before.requires in
+    let pre = c.requires in
     let few = few_predicates pre.0 in
     (omega (arith, pre.1), omega (arith, pre.2))
 
-returns : tie.Need-returns
+returns : tie.Need-returns-then-not-kinds_apart
 unfolding empty_pair
-returns c = rw (sym c.before.kinds-apart.ensures ∙ not-true _ c.if1.true) refl
+returns c = rw (sym c.kinds_apart.ensures ∙ not-true _ c.if-not-kinds_apart.true-raw) refl
 
-semi-join-entry-at-requires : tie.Need-semi-join-entry-at-requires
+semi-join-entry-at-requires : tie.Need-semi_join_entry_at-requires
 semi-join-entry-at-requires c κs =
-    let pre = c.before.before.before.requires in
+    let pre = c.requires in
     (few_predicates pre.0, pre.1, pre.2, omega arith)
 
-mul-all-at-most : tie.Need-overflow-mul-all-at-most
+mul-all-at-most : tie.Need-overflow_mul-all_at_most
 mul-all-at-most c = search rules
 
 -- the entry of the last kind stands inside
-all-at-most-requires : tie.Need-all-at-most-requires
+all-at-most-requires : tie.Need-all_at_most-requires
 all-at-most-requires c κs =
     let s = c.before.before.before.before in
-    omega (arith, c.semi-join-entry-at.ensures, place_below s.args.p s.args.q (kind_count - 1) s.requires.1 s.requires.2 (omega arith), entries_inside s.requires.0)
+    omega (arith, c.semi_join_entry_at.ensures, place_below s.args.p s.args.q (kind_count - 1) s.requires.1 s.requires.2 (omega arith), entries_inside s.requires.0)
 
-returns-2 : tie.Need-returns-2
+returns-2 : tie.Need-returns
 unfolding empty_pair
 returns-2 c =
     let entry = c.before in
     let test = entry.before in
-    rw (sym test.before.kinds-apart.ensures ∙ not-false _ test.if1.false, sym entry.semi-join-entry-at.ensures) c.all-at-most.ensures
+    rw (sym test.kinds_apart.ensures ∙ not-false _ test.if-not-kinds_apart.false-raw, sym entry.semi_join_entry_at.ensures) c.all_at_most.ensures
 
-pub is-empty-pair-spec : {M : Type 1} → statement M
-is-empty-pair-spec =
+pub is_empty_pair_spec : {M : Type 1} → statement M
+is_empty_pair_spec =
     tie.close
     (tie.spec
     kinds-apart-requires

@@ -28,99 +28,99 @@ record TablesDone (s : List ℕ) (at count : ℕ) (image₀ image : List ℕ) (n
   place : to ≡ rows_start count + 2 * row_total done
   room : rows_start count + 2 * most_rows ≤ image_words
 
-abbrev invariant-loop : tie.invariant-loop
+abbrev invariant-loop : tie.invariant-loop-i
 invariant-loop s at count image₀ next₀ to₀ i₀ image next to i = TablesDone s at count image₀ image next to i
 
-abbrev decreases-loop : tie.decreases-loop
+abbrev decreases-loop : tie.decreases-loop-i
 decreases-loop s at count image₀ next₀ to₀ i₀ image next to i = count - i
 
 -- the entries stand before the rows that are written
-count-is : (c : tie.After-table-entry invariant-loop decreases-loop) → let l = c.before.before.before in
-    c.table-entry.result.rows ≡ get_or l.before.before.before.before.args.image.now (vp_entry_at l.loop.i + 1) 0
+count-is : (c : tie.After-table_entry-entry invariant-loop decreases-loop) → let l = c.before.before in
+    c.table_entry-entry.result.rows ≡ get_or l.args.image.now (vp_entry_at l.loop-i.i + 1) 0
 count-is c =
-    let v = c.before.before.before.loop.invariant in
-    c.table-entry.ensures.rows ∙ rw v.written (get_or_before _ _ (vp_words v.done) _ 0 (omega arith))
+    let v = c.loop-i.invariant in
+    c.table_entry-entry.ensures.rows ∙ rw v.written (get_or_before _ _ (vp_words v.done) _ 0 (omega arith))
 
-rows_fit : (c : tie.After-table-entry invariant-loop decreases-loop) → c.before.before.before.loop.to + 2 * c.table-entry.result.rows ≤ image_words
+rows_fit : (c : tie.After-table_entry-entry invariant-loop decreases-loop) → c.loop-i.to + 2 * c.table_entry-entry.result.rows ≤ image_words
 rows_fit c =
-    let turn = c.before.before in
-    omega (arith, table_fits _ _ _ turn.before.loop.invariant.part turn.loop-test.true (count-is c))
+    let turn = c.before in
+    omega (arith, table_fits _ _ _ turn.loop-i.invariant.part turn.loop-i-test.true (count-is c))
 
-rows-start-requires : tie.Need-rows-start-requires invariant-loop decreases-loop
+rows-start-requires : tie.Need-rows_start-to-requires invariant-loop decreases-loop
 rows-start-requires c κs = search rules
 
-loop-holds : tie.Need-loop-init invariant-loop decreases-loop
+loop-holds : tie.Need-loop-i-init invariant-loop decreases-loop
 loop-holds c =
     record {
       done = [];
       part = no_table_read _ _ _;
       written = refl;
       size = refl;
-      place = omega (arith, c.Rows-start.ensures);
-      room = rows_room _ c.before.before.before.requires.0;
+      place = omega (arith, c.rows_start-to.ensures);
+      room = rows_room _ c.requires.0;
     }
 
-table-entry-requires : tie.Need-table-entry-requires invariant-loop decreases-loop
-table-entry-requires c κs = let v = c.before.before.loop.invariant in (omega arith, omega arith)
+table-entry-requires : tie.Need-table_entry-entry-requires invariant-loop decreases-loop
+table-entry-requires c κs = let v = c.loop-i.invariant in (omega arith, omega arith)
 
-read-rows-requires : tie.Need-read-rows-requires invariant-loop decreases-loop
-read-rows-requires c κs = omega (arith, rows_fit c.before, c.before.before.before.before.loop.invariant.size)
+read-rows-requires : tie.Need-read_rows-requires invariant-loop decreases-loop
+read-rows-requires c κs = omega (arith, rows_fit c.before, c.loop-i.invariant.size)
 
-enum-known-number : tie.Need-enum-known-number invariant-loop decreases-loop
+enum-known-number : tie.Need-enum_known-number invariant-loop decreases-loop
 enum-known-number c = search rules
 
-same_length : tie.Need-same-length invariant-loop decreases-loop
+same_length : tie.Need-shape_of-image-in-Refused invariant-loop decreases-loop
 same_length c = search rules
 
-returns : tie.Need-returns invariant-loop decreases-loop
+returns : tie.Need-returns-in-Refused invariant-loop decreases-loop
 returns c =
-    let r = c.before.before.before.before.before in
+    let r = c.before.before.before in
     let entry = r.before.before in
-    let l = entry.before.before in
-    rw (table_refused _ _ _ l.before.loop.invariant.part l.loop-test.true (count-is entry)
-    (was_refused _ _ _ r.read-rows.ensures c.before.number.given.1)) refl
+    let l = entry.before in
+    rw (table_refused _ _ _ l.loop-i.invariant.part l.loop-i-test.true (count-is entry)
+    (was_refused _ _ _ r.read_rows.ensures c.in-Refused.is)) refl
 
-enum-known-after : tie.Need-enum-known-after invariant-loop decreases-loop
+enum-known-after : tie.Need-enum_known-after invariant-loop decreases-loop
 enum-known-after c = search rules
 
-mul-to : tie.Need-overflow-mul-to invariant-loop decreases-loop
-mul-to c = omega (arith, rows_fit c.before.before.before.before.before.before.before)
+mul-to : tie.Need-overflow_mul-to invariant-loop decreases-loop
+mul-to c = omega (arith, rows_fit c.before.before.before.before.before)
 
-add-to : tie.Need-overflow-add-to invariant-loop decreases-loop
-add-to c = omega (arith, rows_fit c.before.before.before.before.before.before.before)
+add-to : tie.Need-overflow_add-to invariant-loop decreases-loop
+add-to c = omega (arith, rows_fit c.before.before.before.before.before)
 
-add-i : tie.Need-overflow-add-i invariant-loop decreases-loop
+add-i : tie.Need-overflow_step-i invariant-loop decreases-loop
 add-i c = search rules
 
-loop-less : tie.Need-loop-smaller invariant-loop decreases-loop
+loop-less : tie.Need-loop-i-smaller invariant-loop decreases-loop
 loop-less c = search rules
 
-loop-again : tie.Need-loop-preserved invariant-loop decreases-loop
+loop-again : tie.Need-loop-i-preserved invariant-loop decreases-loop
 loop-again c =
-    let r = c.before.before.before.before.before in
+    let r = c.before.before.before in
     let entry = r.before.before in
-    let l = entry.before.before in
-    let v = l.before.loop.invariant in
-    let (rows, e, written) = was_taken _ _ _ r.read-rows.ensures c.before.after.given.1 in
+    let l = entry.before in
+    let v = l.loop-i.invariant in
+    let (rows, e, written) = was_taken _ _ _ r.read_rows.ensures c.in-At.is in
     record {
       done = v.done ++ _ ∷ [];
-      part = table_read _ _ _ v.part l.loop-test.true (count-is entry) e;
+      part = table_read _ _ _ v.part l.loop-i-test.true (count-is entry) e;
       written = written ∙ table-written _ _ _ _ v.done _ v.written v.place;
       size = ap length written ∙ length-sets _ _ (table_words rows) ∙ v.size;
       place = rw (sum_snoc, rows-count _ _ e) (omega arith);
       room = v.room;
     }
 
-same-length-2 : tie.Need-same-length-2 invariant-loop decreases-loop
+same-length-2 : tie.Need-shape_of-image invariant-loop decreases-loop
 same-length-2 c = search rules
 
-returns-2 : tie.Need-returns-2 invariant-loop decreases-loop
+returns-2 : tie.Need-returns invariant-loop decreases-loop
 returns-2 c =
-    let v = c.before.loop.invariant in
-    rw (all-tables _ _ _ v.part (omega arith)) (c.before.loop.next, refl, refl, v.written)
+    let v = c.loop-i.invariant in
+    rw (all-tables _ _ _ v.part (omega arith)) (c.loop-i.next, refl, refl, v.written)
 
-pub read-tables-spec : {M : Type 1} → statement M
-read-tables-spec =
+pub read_tables_spec : {M : Type 1} → statement M
+read_tables_spec =
     tie.close
     (tie.spec
     invariant-loop

@@ -16,102 +16,102 @@ use Rattle.site_validation.proofs.Declared.{EntriesStand, not_term, not_ascendin
 use Rattle.site_validation.proofs.entries.rows_end.Statement.{statement}
 use Rattle.site_validation.proofs.entries.rows_end.Tie as tie
 
-abbrev invariant-loop : tie.invariant-loop
+abbrev invariant-loop : tie.invariant-loop-i
 invariant-loop w count here₀ total₀ last₀ i₀ here total last i =
     (i ≤ count) × (total ≤ most_rows) × (total ≡ declared_rows i (drop 3 w)) × (here ≡ rows_start count + 2 * total)
     × (declared_proper (declared_in i (drop 3 w)) ≡ true) × EntriesStand w (rows_start count) i × (0 < i → last ≡ get_or w (vp_entry_at (i - 1)) 0)
 
-abbrev decreases-loop : tie.decreases-loop
+abbrev decreases-loop : tie.decreases-loop-i
 decreases-loop w count here₀ total₀ last₀ i₀ here total last i = count - i
 
 -- where the call began, from a turn
-abbrev start : tie.In-loop invariant-loop decreases-loop → tie.Start invariant-loop decreases-loop
+abbrev start : tie.In-loop-i invariant-loop decreases-loop → tie.Start invariant-loop decreases-loop
 start turn = turn.before.before.before.before
 
-rows-start-requires : tie.Need-rows-start-requires invariant-loop decreases-loop
+rows-start-requires : tie.Need-rows_start-here-requires invariant-loop decreases-loop
 rows-start-requires c κs = search rules
 
-loop-holds : tie.Need-loop-init invariant-loop decreases-loop
+loop-holds : tie.Need-loop-i-init invariant-loop decreases-loop
 loop-holds c = (search rules, search rules, refl, search rules, refl, refl, λ h. absurd (omega arith))
 
-table-entry-requires : tie.Need-table-entry-requires invariant-loop decreases-loop
+table-entry-requires : tie.Need-table_entry-table-requires invariant-loop decreases-loop
 table-entry-requires c κs = search rules
 
-returns : tie.Need-returns invariant-loop decreases-loop
+returns : tie.Need-returns-then-term-gt-MOST_TERM invariant-loop decreases-loop
 returns c =
     let entry = c.before in
     let turn = entry.before in
-    rw (not_term (start turn).args.w.now _ _ turn.loop-test.true (omega (arith, entry.table-entry.ensures.term, c.if1.true))) refl
+    rw (not_term (start turn).args.w.now _ _ turn.loop-i-test.true (omega (arith, entry.table_entry-table.ensures.term, c.if-term-gt-MOST_TERM.true))) refl
 
-returns-2 : tie.Need-returns-2 invariant-loop decreases-loop
+returns-2 : tie.Need-returns-then-term-last invariant-loop decreases-loop
 returns-2 c =
     let entry = c.before.before.before in
     let turn = entry.before in
-    rw (not_ascending (start turn).args.w.now _ _ turn.loop-test.true (omega arith) (omega (arith, leb-true entry.table-entry.result.term turn.before.loop.last c.if3.true, entry.table-entry.ensures.term, turn.before.loop.invariant.6 (omega arith)))) refl
+    rw (not_ascending (start turn).args.w.now _ _ turn.loop-i-test.true (omega arith) (omega (arith, leb-true entry.table_entry-table.result.term turn.loop-i.last c.if-term-last.true-raw, entry.table_entry-table.ensures.term, turn.loop-i.invariant.6 (omega arith)))) refl
 
-add-if4 : tie.Need-overflow-add-if4 invariant-loop decreases-loop
-add-if4 c = omega (arith, c.before.before.table-entry.ensures.small_rows)
+add-if4 : tie.Need-overflow_add-total invariant-loop decreases-loop
+add-if4 c = omega (arith, c.table_entry-table.ensures.small_rows)
 
-returns-3 : tie.Need-returns-3 invariant-loop decreases-loop
+returns-3 : tie.Need-returns-then-total-rows-gt-MOST_ROWS invariant-loop decreases-loop
 returns-3 c =
     let entry = c.before.before.before in
     let turn = entry.before in
-    rw (too_many_rows (start turn).args.w.now _ _ turn.loop-test.true (omega (arith, entry.table-entry.ensures.rows, turn.before.loop.invariant.2))) refl
+    rw (too_many_rows (start turn).args.w.now _ _ turn.loop-i-test.true (omega (arith, entry.table_entry-table.ensures.rows, turn.loop-i.invariant.2))) refl
 
-returns-4 : tie.Need-returns-4 invariant-loop decreases-loop
+returns-4 : tie.Need-returns-then-table-here invariant-loop decreases-loop
 returns-4 c =
     let entry = c.before.before.before.before.before in
     let turn = entry.before in
-    let inv = turn.before.loop.invariant in
-    let other = to_false _ (λ proper. c.if5.true (entry.table-entry.ensures.start ∙ start_proper (start turn).args.w.now _ _ turn.loop-test.true proper ∙ omega (arith, inv.2, inv.3))) in
+    let inv = turn.loop-i.invariant in
+    let other = to_false _ (λ proper. c.if-table-here.true (entry.table_entry-table.ensures.start ∙ start_proper (start turn).args.w.now _ _ turn.loop-i-test.true proper ∙ omega (arith, inv.2, inv.3))) in
     rw other refl
 
-add_total : tie.Need-overflow-add-total invariant-loop decreases-loop
+add_total : tie.Need-overflow_add-total-in-loop-i invariant-loop decreases-loop
 add_total c = search rules
 
-mul-here : tie.Need-overflow-mul-here invariant-loop decreases-loop
+mul-here : tie.Need-overflow_mul-here invariant-loop decreases-loop
 mul-here c = search rules
 
-add-here : tie.Need-overflow-add-here invariant-loop decreases-loop
+add-here : tie.Need-overflow_add-here invariant-loop decreases-loop
 add-here c = search rules
 
-add-i : tie.Need-overflow-add-i invariant-loop decreases-loop
+add-i : tie.Need-overflow_step-i invariant-loop decreases-loop
 add-i c = search rules
 
-loop-less : tie.Need-loop-smaller invariant-loop decreases-loop
+loop-less : tie.Need-loop-i-smaller invariant-loop decreases-loop
 loop-less c = search rules
 
-loop-again : tie.Need-loop-preserved invariant-loop decreases-loop
+loop-again : tie.Need-loop-i-preserved invariant-loop decreases-loop
 loop-again c =
     let joined = c.before.before.before in
     let entry = joined.before.before in
-    let read = entry.table-entry.ensures in
+    let read = entry.table_entry-table.ensures in
     let turn = entry.before in
     let words = (start turn).args.w.now in
-    let i = turn.before.loop.i in
-    let inv = turn.before.loop.invariant in
+    let i = turn.loop-i.i in
+    let inv = turn.loop-i.invariant in
     let here : i + 1 - 1 ≡ i = omega arith in (
       search rules,
       search rules,
       omega (arith, inv.2, read.rows, rows_more words 3 i),
       omega (arith, inv.3),
-      entry-passes words (start turn).args.count i turn.loop-test.true inv.4 (omega (arith, read.term))
-          (⊎_elim (λ x. inr (omega arith, omega (arith, leb-false entry.table-entry.result.term turn.before.loop.last x.1.left, read.term, inv.6 (omega arith)))) (λ x. inl (omega arith)) joined.if2.branch)
+      entry-passes words (start turn).args.count i turn.loop-i-test.true inv.4 (omega (arith, read.term))
+          (⊎_elim (λ x. inr (omega arith, omega (arith, leb-false entry.table_entry-table.result.term turn.loop-i.last x.if-term-last.false-raw, read.term, inv.6 (omega arith)))) (λ x. inl (omega arith)) joined.else-i-gt0.branch-raw)
           (omega (arith, read.rows, inv.2)),
-      stands-more words _ _ (omega arith) inv.5 (sym read.start ∙ c.if5.false ∙ omega (arith, inv.2, inv.3)),
+      stands-more words _ _ (omega arith) inv.5 (sym read.start ∙ c.if-table-here.false ∙ omega (arith, inv.2, inv.3)),
       λ _. rw here read.term,
     )
 
-returns-5 : tie.Need-returns-5 invariant-loop decreases-loop
+returns-5 : tie.Need-returns invariant-loop decreases-loop
 returns-5 c =
     let start = c.before.before.before.before in
-    let inv = c.before.loop.invariant in
-    let all : c.before.loop.i ≡ start.args.count = omega arith in
+    let inv = c.loop-i.invariant in
+    let all : c.loop-i.i ≡ start.args.count = omega arith in
     let proper = all_passed start.args.w.now _ _ all inv.4 inv.5 in
     rw (proper, inv.3, inv.2, all) refl
 
-pub rows-end-spec : {M : Type 1} → statement M
-rows-end-spec =
+pub rows_end_spec : {M : Type 1} → statement M
+rows_end_spec =
     tie.close
     (tie.spec
     invariant-loop

@@ -20,11 +20,11 @@ use Rattle.statistics.proofs.SearchableTables.{behind-first, part_fits, entry-ru
 use Rattle.statistics.proofs.objects.copy_objects.Statement.{statement}
 use Rattle.statistics.proofs.objects.copy_objects.Tie as tie
 
-abbrev invariant-loop : tie.invariant-loop
+abbrev invariant-loop : tie.invariant-loop-i
 invariant-loop w count ranges₀ objects₀ first by-subjects by-objects i₀ ranges objects i =
     (i ≤ count) × (length ranges ≡ 96) × (length objects ≡ length objects₀) × AllSorted count w objects ranges i × AllMeasured w ranges count
 
-abbrev decreases-loop : tie.decreases-loop
+abbrev decreases-loop : tie.decreases-loop-i
 decreases-loop w count ranges₀ objects₀ first by-subjects by-objects i₀ ranges objects i = count - i
 
 -- the copy is of the table that an entry has
@@ -36,8 +36,8 @@ module _ {words : List ℕ} {i : ℕ} (r : TableEntry) (entry : TableEntryAt wor
   gapless-table copy e = rw entry.rows at e
 
 -- what is known once the entry of table i is read
-module _ (c : tie.After-table-entry invariant-loop decreases-loop) where
-  abbrev turn : tie.In-loop invariant-loop decreases-loop
+module _ (c : tie.After-table_entry-table invariant-loop decreases-loop) where
+  abbrev turn : tie.In-loop-i invariant-loop decreases-loop
   turn = c.before
 
   abbrev start : tie.Start invariant-loop decreases-loop
@@ -45,139 +45,139 @@ module _ (c : tie.After-table-entry invariant-loop decreases-loop) where
 
   -- the words are an image of few predicates
   image : ImageOf start.args.count start.args.w.now
-  image = start.pre.0
+  image = start.requires.0
 
-  few : turn.before.loop.i < most_predicates
-  few = (entry_inside image _ turn.loop-test.taken).0
+  few : turn.loop-i.i < most_predicates
+  few = (entry_inside image _ turn.loop-i-test.true).0
 
   abbrev first : ℕ
-  first = turn.before.before.before.before.Rows-start.result
+  first = turn.rows_start-first.result
 
   abbrev start_of : ℕ
-  start_of = c.table-entry.result.start
+  start_of = c.table_entry-table.result.start
 
   abbrev rows_of : ℕ
-  rows_of = c.table-entry.result.rows
+  rows_of = c.table_entry-table.result.rows
 
   behind : first ≤ start_of
-  behind = omega (arith, behind-first image _ turn.loop-test.taken, turn.before.before.before.before.Rows-start.ensures, c.table-entry.ensures.start)
+  behind = omega (arith, behind-first image _ turn.loop-i-test.true, turn.rows_start-first.ensures, c.table_entry-table.ensures.start)
 
   -- where the table's part of the copy starts, as the laws say it
-  part-start : (start_of - first) / 2 ≡ (get_or start.args.w.now (vp_entry_at turn.before.loop.i + 2) 0 - rows_start start.args.count) / 2
-  part-start = omega (arith, turn.before.before.before.before.Rows-start.ensures, c.table-entry.ensures.start)
+  part-start : (start_of - first) / 2 ≡ (get_or start.args.w.now (vp_entry_at turn.loop-i.i + 2) 0 - rows_start start.args.count) / 2
+  part-start = omega (arith, turn.rows_start-first.ensures, c.table_entry-table.ensures.start)
 
   -- it ends where the rows of all would, or before
   part : (start_of - first) / 2 + rows_of ≤ row_total (site_in start.args.count start.args.w.now)
-  part = omega (arith, part-start, c.table-entry.ensures.rows, part_fits image _ turn.loop-test.taken)
+  part = omega (arith, part-start, c.table_entry-table.ensures.rows, part_fits image _ turn.loop-i-test.true)
 
-rows-start-requires : tie.Need-rows-start-requires invariant-loop decreases-loop
-rows-start-requires c κs = few_predicates c.before.before.requires.0
+rows-start-requires : tie.Need-rows_start-first-requires invariant-loop decreases-loop
+rows-start-requires c κs = few_predicates c.requires.0
 
-are-compared-requires : tie.Need-are-compared-requires invariant-loop decreases-loop
+are-compared-requires : tie.Need-are_compared-by_subjects-requires invariant-loop decreases-loop
 are-compared-requires c κs = search rules
 
-are-compared-requires-2 : tie.Need-are-compared-requires-2 invariant-loop decreases-loop
+are-compared-requires-2 : tie.Need-are_compared-by_objects-requires invariant-loop decreases-loop
 are-compared-requires-2 c κs = search rules
 
-loop-holds : tie.Need-loop-init invariant-loop decreases-loop
+loop-holds : tie.Need-loop-i-init invariant-loop decreases-loop
 loop-holds c =
-    let pre = c.before.before.before.before.before.requires in
+    let pre = c.requires in
     (omega arith, pre.3, refl, (λ i h. absurd (omega arith)), pre.2)
 
-table-entry-requires : tie.Need-table-entry-requires invariant-loop decreases-loop
-table-entry-requires c κs = entry_inside c.before.before.before.before.before.before.before.requires.0 _ c.loop-test.true
+table-entry-requires : tie.Need-table_entry-table-requires invariant-loop decreases-loop
+table-entry-requires c κs = entry_inside c.requires.0 _ c.loop-i-test.true
 
-sub-to : tie.Need-overflow-sub-to invariant-loop decreases-loop
+sub-to : tie.Need-overflow_sub-to invariant-loop decreases-loop
 sub-to c = behind c
 
-objects-reached-requires : tie.Need-objects-reached-requires invariant-loop decreases-loop
+objects-reached-requires : tie.Need-objects_reached-reached-requires invariant-loop decreases-loop
 objects-reached-requires c κs =
-    let entry = c.before in
+    let entry = c in
     let compared = (turn entry).before.before in
-    (few_predicates (image entry), few entry, compared.before.are-compared.ensures, compared.are-compared2.ensures)
+    (few_predicates (image entry), few entry, compared.are_compared-by_subjects.ensures, compared.are_compared-by_objects.ensures)
 
-mul-copy-reached : tie.Need-overflow-mul-copy-reached invariant-loop decreases-loop
-mul-copy-reached c = omega (arith, part c.before.before)
+mul-copy-reached : tie.Need-offset_bounds-objects-to invariant-loop decreases-loop
+mul-copy-reached c = omega (arith, part c.before)
 
-sub-copy-reached : tie.Need-overflow-sub-copy-reached invariant-loop decreases-loop
-sub-copy-reached c = omega (arith, part c.before.before)
+sub-copy-reached : tie.Need-slice_bounds-copy_reached-count invariant-loop decreases-loop
+sub-copy-reached c = omega (arith, part c.before)
 
-part-copy-reached-start : tie.Need-slice-bounds-copy-reached-start invariant-loop decreases-loop
-part-copy-reached-start c = omega (arith, part c.before.before)
+part-copy-reached-start : tie.Need-slice_bounds-copy_reached-start invariant-loop decreases-loop
+part-copy-reached-start c = omega (arith, part c.before)
 
-part-copy-reached-end : tie.Need-slice-bounds-copy-reached-end invariant-loop decreases-loop
+part-copy-reached-end : tie.Need-slice_bounds-copy_reached-end invariant-loop decreases-loop
 part-copy-reached-end c = omega arith
 
-copy-reached-requires : tie.Need-copy-reached-requires invariant-loop decreases-loop
+copy-reached-requires : tie.Need-copy_reached-whole-requires invariant-loop decreases-loop
 copy-reached-requires c κs =
-    let entry = c.before.before.before in
-    ((entry-run (image entry) _ (turn entry).loop-test.true _ entry.table-entry.ensures).inside, omega (arith, part entry, c.copy-reached-arg.given.2))
+    let entry = c.before.before in
+    ((entry-run (image entry) _ (turn entry).loop-i-test.true _ entry.table_entry-table.ensures).inside, omega (arith, part entry, c.copy_reached-arg-1.given.2))
 
-range-at-requires : tie.Need-range-at-requires invariant-loop decreases-loop
-range-at-requires c κs = (few c.before.before.before.before.before.before, omega arith)
+range-at-requires : tie.Need-range_at-requires invariant-loop decreases-loop
+range-at-requires c κs = (few c.before.before.before.before.before, omega arith)
 
-add-ranges : tie.Need-overflow-add-ranges invariant-loop decreases-loop
-add-ranges c = omega (arith, c.range_at.ensures, few c.before.before.before.before.before.before.before)
+add-ranges : tie.Need-overflow_add-ranges invariant-loop decreases-loop
+add-ranges c = omega (arith, c.range_at.ensures, few c.before.before.before.before.before.before)
 
-mul-ranges : tie.Need-overflow-mul-ranges invariant-loop decreases-loop
-mul-ranges c = omega (arith, c.range_at.ensures, few c.before.before.before.before.before.before.before)
+mul-ranges : tie.Need-offset_bounds-ranges-range_at invariant-loop decreases-loop
+mul-ranges c = omega (arith, c.range_at.ensures, few c.before.before.before.before.before.before)
 
-element-write-ranges : tie.Need-element-write-ranges invariant-loop decreases-loop
+element-write-ranges : tie.Need-bounds-ranges-range_at invariant-loop decreases-loop
 element-write-ranges c = omega (arith, c.range_at.ensures, few c.before.before.before.before.before.before.before)
 
-add-i : tie.Need-overflow-add-i invariant-loop decreases-loop
+add-i : tie.Need-overflow_step-i invariant-loop decreases-loop
 add-i c = omega arith
 
-loop-less : tie.Need-loop-smaller invariant-loop decreases-loop
+loop-less : tie.Need-loop-i-smaller invariant-loop decreases-loop
 loop-less c = omega arith
 
-loop-again : tie.Need-loop-preserved invariant-loop decreases-loop
+loop-again : tie.Need-loop-i-preserved invariant-loop decreases-loop
 loop-again c =
-    let put = c.before.before.before in
-    let back = c.before.before.objects in
-    let entry = put.before.before.before.before in
+    let put = c.before.before.before.before in
+    let back = c.objects-1 in
+    let entry = put.before.before.before in
     let s = start entry in
     let w = s.args.w.now in
-    let loop = (turn entry).before.loop in
-    let inv = loop.inv in
-    let whole = put.copy-reached.result in
-    let copy = put.copy-reached.new.1.1.1.1.0 in
-    let read = entry.table-entry.ensures in
-    let asked = put.before.before.objects-reached.ensures in
-    let among = (turn entry).loop-test.true in
-    let room : row_total (site_in s.args.count w) ≤ length loop.objects = omega (arith, inv.2, s.pre.1) in (
+    let loop = (turn entry).loop-i in
+    let inv = loop.invariant in
+    let whole = put.copy_reached-whole.result in
+    let copy = put.copy_reached-whole.new.copy in
+    let read = entry.table_entry-table.ensures in
+    let asked = put.objects_reached-reached.ensures in
+    let among = (turn entry).loop-i-test.true in
+    let room : row_total (site_in s.args.count w) ≤ length loop.objects = omega (arith, inv.2, s.requires.1) in (
       omega arith,
       length-set loop.ranges _ whole ∙ inv.1,
       back.given.1 ∙ inv.2,
       rw (part-start entry, c.range_at.ensures)
           (sorted_more (image entry) loop.objects copy _ loop.i among room
-          (omega (arith, part entry, read.rows, back.given.0, put.before.copy-reached-arg.given.2)) loop.ranges whole inv.3
-          (λ p m column n compared other e. copy-of-table _ read (put.copy-reached.ensures.0 (asked ∙ reached_by loop.ranges s.args.count loop.i p column m n compared other e)))),
+          (omega (arith, part entry, read.rows, back.given.0, put.copy_reached-arg-1.given.2)) loop.ranges whole inv.3
+          (λ p m column n compared other e. copy-of-table _ read (put.copy_reached-whole.ensures.0 (asked ∙ reached_by loop.ranges s.args.count loop.i p column m n compared other e)))),
       rw c.range_at.ensures
           (measured_again loop.ranges loop.i whole w s.args.count (omega (arith, few entry, inv.1)) inv.4
           (range_whole _ whole copy _
           (λ e.
-          let (reached, gapless) = put.copy-reached.ensures.1 e in
-          let sorted = copy-of-table _ read (put.copy-reached.ensures.0 reached) in
+          let (reached, gapless) = put.copy_reached-whole.ensures.1 e in
+          let sorted = copy-of-table _ read (put.copy_reached-whole.ensures.0 reached) in
           (same_answers sorted.same, sorted.ascend, gapless-table _ read copy gapless))
           (inv.4 loop.i among 1 (omega arith)))),
     )
 
-same_length : tie.Need-same-length invariant-loop decreases-loop
-same_length c = c.before.loop.invariant.2
+same_length : tie.Need-shape_of-objects invariant-loop decreases-loop
+same_length c = c.loop-i.invariant.2
 
 returns : tie.Need-returns invariant-loop decreases-loop
 returns c =
     let s = c.before.before.before.before.before.before.before in
-    let inv = c.before.loop.invariant in
+    let inv = c.loop-i.invariant in
     record {
       searchable = all_searchable s.requires.0 _ (omega (arith, inv.2, s.requires.1));
       sorted = λ i h. inv.3 i (omega arith);
       measured = inv.4;
     }
 
-pub copy-objects-spec : {M : Type 1} → statement M
-copy-objects-spec =
+pub copy_objects_spec : {M : Type 1} → statement M
+copy_objects_spec =
     tie.close
     (tie.spec
     invariant-loop

@@ -7,31 +7,31 @@ use borrow.Author.Rules.{rules}
 use Rattle.statistics.proofs.objects.copy_reached.Statement.{statement}
 use Rattle.statistics.proofs.objects.copy_reached.Tie as tie
 
-returns : tie.Need-returns
-returns c = (λ e. not_both e (not-true _ c.if1.true), λ e. absurd (omega arith))
+returns : tie.Need-returns-then-not-reached
+returns c = (λ e. not_both e (not-true _ c.if-not-reached.true-raw), λ e. absurd (omega arith))
 
-copy-sorted-requires : tie.Need-copy-sorted-requires
+copy-sorted-requires : tie.Need-copy_sorted-requires
 copy-sorted-requires c κs = search rules
 
-is-gapless-requires : tie.Need-is-gapless-requires
+is-gapless-requires : tie.Need-is_gapless-requires
 is-gapless-requires c κs = search rules
 
-same_length : tie.Need-same-length
+same_length : tie.Need-shape_of-copy-then-is_gapless
 same_length c = search rules
 
-returns-2 : tie.Need-returns-2
+returns-2 : tie.Need-returns-then-is_gapless
 returns-2 c =
-    let copied = c.before.before.before.before.before in
-    (λ _. copied.copy-sorted.ensures.0, λ _. (not-false _ copied.before.before.if1.false, sym c.before.is-gapless.ensures ∙ c.if2.true))
+    let copied = c.before.before.before.before in
+    (λ _. copied.copy_sorted.ensures.0, λ _. (not-false _ copied.if-not-reached.false-raw, sym c.is_gapless.ensures ∙ c.if-is_gapless.true))
 
-same-length-2 : tie.Need-same-length-2
+same-length-2 : tie.Need-shape_of-copy
 same-length-2 c = search rules
 
-returns-3 : tie.Need-returns-3
-returns-3 c = (λ _. c.before.before.before.before.before.copy-sorted.ensures.0, λ e. absurd (omega arith))
+returns-3 : tie.Need-returns
+returns-3 c = (λ _. c.copy_sorted.ensures.0, λ e. absurd (omega arith))
 
-pub copy-reached-spec : {M : Type 1} → statement M
-copy-reached-spec =
+pub copy_reached_spec : {M : Type 1} → statement M
+copy_reached_spec =
     tie.close
     (tie.spec
     returns

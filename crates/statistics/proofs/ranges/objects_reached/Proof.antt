@@ -9,47 +9,47 @@ use Rattle.statistics.specs.Ranges.{range_at, is_reached, objects_reached}
 use Rattle.statistics.proofs.ranges.objects_reached.Statement.{statement}
 use Rattle.statistics.proofs.ranges.objects_reached.Tie as tie
 
-range-at-requires : tie.Need-range-at-requires
+range-at-requires : tie.Need-range_at-place-requires
 range-at-requires c κs = search rules
 
-is-reached-requires : tie.Need-is-reached-requires
+is-reached-requires : tie.Need-is_reached-requires
 is-reached-requires c κs = search rules
 
 -- the subjects are not compared with objects, or they are apart
-subjects-apart : (c : tie.Joined1) → let s = c.before.before.args in
+subjects-apart : (c : tie.Joined-else-subjects) → let s = c.args in
     (are_compared 0 1 && is_reached s.ranges.now s.count 0 (range_at s.i 1)) ≡ false
 subjects-apart c =
-    let compared = c.before.before.pre.2 in
+    let compared = c.requires.2 in
     ⊎_elim
-    (λ w. rw (rw c.before.range_at.ensures at (sym w.1.ensures ∙ w.2.left)) (and-false (are_compared 0 1)))
-    (λ w. rw (sym compared ∙ w.left) refl)
-    c.if1.came
+    (λ w. rw (rw c.range_at-place.ensures at (sym w.is_reached.ensures ∙ w.if-is_reached.false)) (and-false (are_compared 0 1)))
+    (λ w. rw (sym compared ∙ w.if-subjects.false) refl)
+    c.else-subjects.branch-raw
 
-returns : tie.Need-returns
+returns : tie.Need-returns-then-is_reached
 unfolding objects_reached
 returns c =
     let compared = c.before.before in
-    let place = compared.before.range_at.ensures in
-    sym (or_left _ (and_make (sym compared.before.before.pre.2 ∙ compared.if1.taken) (rw place at (sym c.before.is-reached.ensures ∙ c.if2.taken))))
+    let place = compared.range_at-place.ensures in
+    sym (or_left _ (and_make (sym compared.requires.2 ∙ compared.if-subjects.true) (rw place at (sym c.is_reached.ensures ∙ c.if-is_reached.true))))
 
-is-reached-requires-2 : tie.Need-is-reached-requires-2
+is-reached-requires-2 : tie.Need-is_reached-requires-then-objects
 is-reached-requires-2 c κs = search rules
 
-returns-2 : tie.Need-returns-2
+returns-2 : tie.Need-returns-then-objects
 unfolding objects_reached
 returns-2 c =
     let compared = c.before in
     let after = compared.before in
-    rw (subjects-apart after, sym after.before.before.pre.3 ∙ compared.if3.taken, sym after.before.range_at.ensures) c.is-reached2.ensures
+    rw (subjects-apart after, sym after.requires.3 ∙ compared.if-objects.true, sym after.range_at-place.ensures) c.is_reached-then-objects.ensures
 
-returns-3 : tie.Need-returns-3
+returns-3 : tie.Need-returns-else-objects
 unfolding objects_reached
 returns-3 c =
     let after = c.before in
-    rw (subjects-apart after, sym after.before.before.pre.3 ∙ c.if3.left) c.if3.left
+    rw (subjects-apart after, sym after.requires.3 ∙ c.if-objects.false) c.if-objects.false
 
-pub objects-reached-spec : {M : Type 1} → statement M
-objects-reached-spec =
+pub objects_reached_spec : {M : Type 1} → statement M
+objects_reached_spec =
     tie.close
     (tie.spec
     range-at-requires

@@ -19,49 +19,49 @@ use Rattle.stored_rows.proofs.comparing.compare_filtered.Tie as tie
 abbrev isThere : List ℕ → ℕ → ℕ → List Row → Bool
 isThere w at k rows = same_words (take (2 * k) (drop at w)) (table_words rows)
 
-compare-searched-requires : tie.Need-compare-searched-requires
+compare-searched-requires : tie.Need-compare_searched-requires
 compare-searched-requires c κs = search rules
 
-returns : tie.Need-returns
+returns : tie.Need-returns-then-o-ne0
 returns c = search rules
 
-compare-walked-requires : tie.Need-compare-walked-requires
+compare-walked-requires : tie.Need-compare_walked-requires
 compare-walked-requires c κs =
-    let pre = c.before.before.before.before.before.before.before.requires in
+    let pre = c.requires in
     let o = pre.0.0 in
     let subjects = o.partners.table.subjects in
-    ((o.rows.subjects, pre.0.1), (subjects, contains_same (same_answers (same_subjects _ _ _ subjects.inside)) (rw c.if2.true at pre.1.contained)))
+    ((o.rows.subjects, pre.0.1), (subjects, contains_same (same_answers (same_subjects _ _ _ subjects.inside)) (rw c.if-o-eq0.true at pre.1.contained)))
 
-returns-2 : tie.Need-returns-2
+returns-2 : tie.Need-returns-then-o-eq0
 unfolding left_rows
 returns-2 c =
     let s = c.before.before.before.before.before.before.before.before in
     let a = s.args in
-    rw (c.before.before.before.if1.false, c.before.if2.true)
-    (c.compare-walked.ensures ∙ ap (isThere a.w.now a.at a.k) (subjects_left _ 0 (same_subjects _ _ _ s.requires.0.0.partners.table.subjects.inside)))
+    rw (c.if-o-ne0.false, c.if-o-eq0.true)
+    (c.compare_walked.ensures ∙ ap (isThere a.w.now a.at a.k) (subjects_left _ 0 (same_subjects _ _ _ s.requires.0.0.partners.table.subjects.inside)))
 
-sub-copy : tie.Need-overflow-sub-copy
+sub-copy : tie.Need-overflow_sub-copy
 sub-copy c = search rules
 
-compare-walked-requires-2 : tie.Need-compare-walked-requires-2
+compare-walked-requires-2 : tie.Need-compare_walked-requires-2
 compare-walked-requires-2 c κs =
     let s = c.before.before.before.before.before.before.before.before in
     let o = s.requires.0.0 in
-    let object : s.args.o.other ≡ 1 = omega (arith, o.partners.small, c.before.if2.false) in
+    let object : s.args.o.other ≡ 1 = omega (arith, o.partners.small, c.if-o-eq0.false) in
     let sorted = o.partners.sorted object in
     ((o.rows.subjects, s.requires.0.1), (objects_run o.partners.table sorted, contains_same (same_answers sorted.same_objects) (rw object at s.requires.1.contained)))
 
-returns-3 : tie.Need-returns-3
+returns-3 : tie.Need-returns
 unfolding left_rows
 returns-3 c =
     let s = c.before.before.before.before.before.before.before.before.before in
     let a = s.args in
-    let object : a.o.other ≡ 1 = omega (arith, s.requires.0.0.partners.small, c.before.before.if2.false) in
-    rw (c.before.before.before.before.if1.false, object)
-    (c.compare-walked2.ensures ∙ ap (isThere a.w.now a.at a.k) (subjects_left _ 1 (s.requires.0.0.partners.sorted object).same_objects))
+    let object : a.o.other ≡ 1 = omega (arith, s.requires.0.0.partners.small, c.if-o-eq0.false) in
+    rw (c.if-o-ne0.false, object)
+    (c.compare_walked-2.ensures ∙ ap (isThere a.w.now a.at a.k) (subjects_left _ 1 (s.requires.0.0.partners.sorted object).same_objects))
 
-pub compare-filtered-spec : {M : Type 1} → statement M
-compare-filtered-spec =
+pub compare_filtered_spec : {M : Type 1} → statement M
+compare_filtered_spec =
     tie.close
     (tie.spec
     compare-searched-requires

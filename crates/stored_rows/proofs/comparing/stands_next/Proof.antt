@@ -10,53 +10,53 @@ use Rattle.stored_rows.proofs.comparing.stands_next.Statement.{statement}
 use Rattle.stored_rows.proofs.comparing.stands_next.Tie as tie
 
 -- the stored row stands in the words
-inside : (c : tie.Else1) → c.before.args.next + 2 ≤ length c.before.args.w.now
-inside c = c.before.requires.0 c.if1.false
+inside : (c : tie.Else-next-end) → c.args.next + 2 ≤ length c.args.w.now
+inside c = c.requires.0 c.if-next-end.false
 
-returns : tie.Need-returns
+returns : tie.Need-returns-then-next-end
 unfolding stands_next
-returns c = rw (eq-eqb _ _ c.if1.true) refl
+returns c = rw (eq-eqb _ _ c.if-next-end.true) refl
 
-mul-if2 : tie.Need-overflow-mul-if2
+mul-if2 : tie.Need-offset_bounds-w-next
 mul-if2 c = omega (arith, inside c)
 
-shared-slice-read-if2 : tie.Need-shared-slice-read-if2
+shared-slice-read-if2 : tie.Need-bounds-w-next
 shared-slice-read-if2 c = omega (arith, inside c.before)
 
-mul-if2-2 : tie.Need-overflow-mul-if2-2
+mul-if2-2 : tie.Need-offset_bounds-w-row
 mul-if2-2 c = search rules
 
-shared-slice-read-if2-2 : tie.Need-shared-slice-read-if2-2
+shared-slice-read-if2-2 : tie.Need-bounds-w-row
 shared-slice-read-if2-2 c = search rules
 
-returns-2 : tie.Need-returns-2
+returns-2 : tie.Need-returns-then-w-next
 unfolding stands_next
-returns-2 c = rw (ne_eqb _ _ c.before.before.before.if1.false, ne_eqb _ _ c.if2.true) refl
+returns-2 c = rw (ne_eqb _ _ c.if-next-end.false, ne_eqb _ _ c.if-w-next.true) refl
 
-add-result : tie.Need-overflow-add-result
+add-result : tie.Need-overflow_add-result
 add-result c = omega (arith, inside c.before.before.before)
 
-mul-result : tie.Need-overflow-mul-result
+mul-result : tie.Need-offset_bounds-w-next-2
 mul-result c = omega (arith, inside c.before.before.before)
 
-shared-slice-read-result : tie.Need-shared-slice-read-result
+shared-slice-read-result : tie.Need-bounds-w-next-2
 shared-slice-read-result c = omega (arith, inside c.before.before.before.before)
 
-add-result-2 : tie.Need-overflow-add-result-2
+add-result-2 : tie.Need-overflow_add-result-2
 add-result-2 c = search rules
 
-mul-result-2 : tie.Need-overflow-mul-result-2
+mul-result-2 : tie.Need-offset_bounds-w-row-2
 mul-result-2 c = search rules
 
-shared-slice-read-result-2 : tie.Need-shared-slice-read-result-2
+shared-slice-read-result-2 : tie.Need-bounds-w-row-2
 shared-slice-read-result-2 c = search rules
 
-returns-3 : tie.Need-returns-3
+returns-3 : tie.Need-returns
 unfolding stands_next
-returns-3 c = rw (ne_eqb _ _ c.before.before.before.before.before.if1.false, eq-eqb _ _ c.before.before.if2.false) refl
+returns-3 c = rw (ne_eqb _ _ c.if-next-end.false, eq-eqb _ _ c.if-w-next.false) refl
 
-pub stands-next-spec : {M : Type 1} → statement M
-stands-next-spec =
+pub stands_next_spec : {M : Type 1} → statement M
+stands_next_spec =
     tie.close
     (tie.spec
     returns

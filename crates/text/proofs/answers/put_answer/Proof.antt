@@ -10,102 +10,102 @@ use Rattle.text.proofs.Printing.{printed_fits, rows-printed, line_printed}
 use Rattle.text.proofs.answers.put_answer.Statement.{statement}
 use Rattle.text.proofs.answers.put_answer.Tie as tie
 
-put-first-line-requires : tie.Need-put-first-line-requires
-put-first-line-requires c κs = omega (arith, first-length c.before.before.before.args.answer)
+put-first-line-requires : tie.Need-put_first_line-first-requires
+put-first-line-requires c κs = omega (arith, first-length c.args.answer)
 
-enum-known-answer : tie.Need-enum-known-answer
+enum-known-answer : tie.Need-enum_known-answer
 enum-known-answer c = search rules
 
-put-row-lines-requires : tie.Need-put-row-lines-requires
+put-row-lines-requires : tie.Need-put_row_lines-requires
 put-row-lines-requires c κs =
-    let start = c.before.before.before.before.before.before.before.before.before.before in
-    let told = c.before.before.answer.given.1 in
+    let start = c.before.before.before.before.before.before.before.before in
+    let told = c.in-Rows.is in
     let fits = rw told at start.requires.0 in
     let room = rw told at (printed_fits start.args.answer start.args.words.now start.requires.0 start.requires.1) in
-    let first = rw told at c.before.before.before.before.before.before.put-first-line.ensures.0 in
+    let first = rw told at c.put_first_line-first.ensures.0 in
     (fits.0, omega arith)
 
-enum_told : tie.Need-enum-told
+enum_told : tie.Need-enum_told-1
 enum_told c = search rules
 
-enum-told-2 : tie.Need-enum-told-2
+enum-told-2 : tie.Need-enum_told-in-Built
 enum-told-2 c = search rules
 
-enum-told-3 : tie.Need-enum-told-3
+enum-told-3 : tie.Need-enum_told-in-Plan
 enum-told-3 c = search rules
 
-enum-told-4 : tie.Need-enum-told-4
+enum-told-4 : tie.Need-enum_told-in-Yes
 enum-told-4 c = search rules
 
-enum-told-5 : tie.Need-enum-told-5
+enum-told-5 : tie.Need-enum_told-in-No
 enum-told-5 c = search rules
 
-enum-told-6 : tie.Need-enum-told-6
+enum-told-6 : tie.Need-enum_told-in-Refused
 enum-told-6 c = search rules
 
-same_length : tie.Need-same-length
+same_length : tie.Need-shape_of-out-in-Rows
 same_length c = search rules
 
 -- an answer without rows
-without-rows : (k : tie.After-put-first-line) →
-    let args = k.before.before.before.before.args in
+without-rows : (k : tie.After-put_first_line-first) →
+    let args = k.args in
     row_lines args.answer args.words.now ≡ []
-    → (k.put-first-line.result ≡ length (printed args.answer args.words.now))
-    × (take k.put-first-line.result k.put-first-line.new.1.0 ≡ printed args.answer args.words.now)
+    → (k.put_first_line-first.result ≡ length (printed args.answer args.words.now))
+    × (take k.put_first_line-first.result k.put_first_line-first.new.out ≡ printed args.answer args.words.now)
 without-rows k none =
     let start = k.before.before.before.before in
-    line_printed start.args.answer start.args.words.now start.args.out.now start.requires.0 start.requires.1 none k.put-first-line.ensures
+    line_printed start.args.answer start.args.words.now start.args.out.now start.requires.0 start.requires.1 none k.put_first_line-first.ensures
 
-returns : tie.Need-returns
+returns : tie.Need-returns-in-Rows
 returns c =
-    let start = c.before.before.before.before.before.before.before.before.before.before.before.before.before in
-    rows-printed start.args.answer start.args.words.now start.args.out.now start.requires.0 start.requires.1 c.before.before.before.before.before.before.before.before.before.put-first-line.ensures
-    (rw c.before.before.before.before.before.answer.given.1 c.before.before.put-row-lines.ensures)
+    let start = c.before.before.before.before.before.before.before.before.before.before.before in
+    rows-printed start.args.answer start.args.words.now start.args.out.now start.requires.0 start.requires.1 c.put_first_line-first.ensures
+    (rw c.in-Rows.is c.put_row_lines.ensures)
 
-same-length-2 : tie.Need-same-length-2
+same-length-2 : tie.Need-shape_of-out-in-None
 same-length-2 c = search rules
 
-returns-2 : tie.Need-returns-2
+returns-2 : tie.Need-returns-in-None
 unfolding row_lines
-returns-2 c = without-rows c.before.before.before.before (rw c.enum_told.given.1 refl)
+returns-2 c = without-rows c.before.before.before (rw c.in-None.is refl)
 
-same-length-3 : tie.Need-same-length-3
+same-length-3 : tie.Need-shape_of-out-in-Built
 same-length-3 c = search rules
 
-returns-3 : tie.Need-returns-3
+returns-3 : tie.Need-returns-in-Built
 unfolding row_lines
-returns-3 c = without-rows c.before.before.before.before (rw c.enum-told2.given.1 refl)
+returns-3 c = without-rows c.before.before.before (rw c.in-Built.is refl)
 
-same-length-4 : tie.Need-same-length-4
+same-length-4 : tie.Need-shape_of-out-in-Plan
 same-length-4 c = search rules
 
-returns-4 : tie.Need-returns-4
+returns-4 : tie.Need-returns-in-Plan
 unfolding row_lines
-returns-4 c = without-rows c.before.before.before.before (rw c.enum-told3.given.1 refl)
+returns-4 c = without-rows c.before.before.before (rw c.in-Plan.is refl)
 
-same-length-5 : tie.Need-same-length-5
+same-length-5 : tie.Need-shape_of-out-in-Yes
 same-length-5 c = search rules
 
-returns-5 : tie.Need-returns-5
+returns-5 : tie.Need-returns-in-Yes
 unfolding row_lines
-returns-5 c = without-rows c.before.before.before.before (rw c.enum-told4.given.1 refl)
+returns-5 c = without-rows c.before.before.before (rw c.in-Yes.is refl)
 
-same-length-6 : tie.Need-same-length-6
+same-length-6 : tie.Need-shape_of-out-in-No
 same-length-6 c = search rules
 
-returns-6 : tie.Need-returns-6
+returns-6 : tie.Need-returns-in-No
 unfolding row_lines
-returns-6 c = without-rows c.before.before.before.before (rw c.enum-told5.given.1 refl)
+returns-6 c = without-rows c.before.before.before (rw c.in-No.is refl)
 
-same-length-7 : tie.Need-same-length-7
+same-length-7 : tie.Need-shape_of-out-in-Refused
 same-length-7 c = search rules
 
-returns-7 : tie.Need-returns-7
+returns-7 : tie.Need-returns-in-Refused
 unfolding row_lines
-returns-7 c = without-rows c.before.before.before.before (rw c.enum-told6.given.1 refl)
+returns-7 c = without-rows c.before.before.before (rw c.in-Refused.is refl)
 
-pub put-answer-spec : {M : Type 1} → statement M
-put-answer-spec =
+pub put_answer_spec : {M : Type 1} → statement M
+put_answer_spec =
     tie.close
     (tie.spec
     put-first-line-requires

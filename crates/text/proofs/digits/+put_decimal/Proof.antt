@@ -30,58 +30,58 @@ put-decimal-below t =
 abbrev callees : ℕ → put-decimal-lts.Claims
 callees t = (put-decimal-below t, put-decimal.Post)
 
-put-decimal-cast-out : (t : ℕ) → put-decimal-lts.Need-overflow-cast-out (callees t) (put-decimal-at t) put-decimal.Post
+put-decimal-cast-out : (t : ℕ) → put-decimal-lts.Need-overflow_cast-out (callees t) (put-decimal-at t) put-decimal.Post
 put-decimal-cast-out t c = search rules
 
-put-decimal-add-out : (t : ℕ) → put-decimal-lts.Need-overflow-add-out (callees t) (put-decimal-at t) put-decimal.Post
+put-decimal-add-out : (t : ℕ) → put-decimal-lts.Need-overflow_add-out (callees t) (put-decimal-at t) put-decimal.Post
 put-decimal-add-out t c = search rules
 
-put-decimal-slice-write-out : (t : ℕ) → put-decimal-lts.Need-slice-write-out (callees t) (put-decimal-at t) put-decimal.Post
-put-decimal-slice-write-out t c = omega (arith, ap length (decimal_digit c.before.before.args.n c.if1.true))
+put-decimal-slice-write-out : (t : ℕ) → put-decimal-lts.Need-bounds-out-at (callees t) (put-decimal-at t) put-decimal.Post
+put-decimal-slice-write-out t c = omega (arith, ap length (decimal_digit c.args.n c.if-n-lt10.true))
 
-put-decimal-add-result : (t : ℕ) → put-decimal-lts.Need-overflow-add-result (callees t) (put-decimal-at t) put-decimal.Post
+put-decimal-add-result : (t : ℕ) → put-decimal-lts.Need-overflow_add-result (callees t) (put-decimal-at t) put-decimal.Post
 put-decimal-add-result t c = search rules
 
-put-decimal-same-length : (t : ℕ) → put-decimal-lts.Need-same-length (callees t) (put-decimal-at t) put-decimal.Post
+put-decimal-same-length : (t : ℕ) → put-decimal-lts.Need-shape_of-out-then-n-lt10 (callees t) (put-decimal-at t) put-decimal.Post
 put-decimal-same-length t c = search rules
 
-put-decimal-returns : (t : ℕ) → put-decimal-lts.Need-returns (callees t) (put-decimal-at t) put-decimal.Post
-put-decimal-returns t c = rw (decimal_digit c.before.before.args.n c.if1.true) (refl, refl)
+put-decimal-returns : (t : ℕ) → put-decimal-lts.Need-returns-then-n-lt10 (callees t) (put-decimal-at t) put-decimal.Post
+put-decimal-returns t c = rw (decimal_digit c.args.n c.if-n-lt10.true) (refl, refl)
 
-put-decimal-put-decimal-requires : (t : ℕ) → put-decimal-lts.Need-put-decimal-requires (callees t) (put-decimal-at t) put-decimal.Post
+put-decimal-put-decimal-requires : (t : ℕ) → put-decimal-lts.Need-put_decimal-next-requires (callees t) (put-decimal-at t) put-decimal.Post
 put-decimal-put-decimal-requires t c κs =
     let g = c.before.before.before in
     (omega arith, omega (arith, decimal_longer g.args.n (omega arith) (omega arith)))
 
-put-decimal-cast-out-2 : (t : ℕ) → put-decimal-lts.Need-overflow-cast-out-2 (callees t) (put-decimal-at t) put-decimal.Post
+put-decimal-cast-out-2 : (t : ℕ) → put-decimal-lts.Need-overflow_cast-out-2 (callees t) (put-decimal-at t) put-decimal.Post
 put-decimal-cast-out-2 t c = search rules
 
-put-decimal-add-out-2 : (t : ℕ) → put-decimal-lts.Need-overflow-add-out-2 (callees t) (put-decimal-at t) put-decimal.Post
+put-decimal-add-out-2 : (t : ℕ) → put-decimal-lts.Need-overflow_add-out-2 (callees t) (put-decimal-at t) put-decimal.Post
 put-decimal-add-out-2 t c = search rules
 
-put-decimal-slice-write-out-2 : (t : ℕ) → put-decimal-lts.Need-slice-write-out-2 (callees t) (put-decimal-at t) put-decimal.Post
+put-decimal-slice-write-out-2 : (t : ℕ) → put-decimal-lts.Need-bounds-out-next (callees t) (put-decimal-at t) put-decimal.Post
 put-decimal-slice-write-out-2 t c =
     let g = c.before.before.before.before.before.before in
     omega (arith, decimal_longer g.args.n (omega arith) (omega arith))
 
-put-decimal-add-result-2 : (t : ℕ) → put-decimal-lts.Need-overflow-add-result-2 (callees t) (put-decimal-at t) put-decimal.Post
+put-decimal-add-result-2 : (t : ℕ) → put-decimal-lts.Need-overflow_add-result-2 (callees t) (put-decimal-at t) put-decimal.Post
 put-decimal-add-result-2 t c =
     let g = c.before.before.before.before.before.before in
     record { fits = omega (arith, decimal_longer g.args.n (omega arith) (omega arith)) }
 
-put-decimal-same-length-2 : (t : ℕ) → put-decimal-lts.Need-same-length-2 (callees t) (put-decimal-at t) put-decimal.Post
+put-decimal-same-length-2 : (t : ℕ) → put-decimal-lts.Need-shape_of-out (callees t) (put-decimal-at t) put-decimal.Post
 put-decimal-same-length-2 t c = search rules
 
-put-decimal-returns-2 : (t : ℕ) → put-decimal-lts.Need-returns-2 (callees t) (put-decimal-at t) put-decimal.Post
+put-decimal-returns-2 : (t : ℕ) → put-decimal-lts.Need-returns (callees t) (put-decimal-at t) put-decimal.Post
 put-decimal-returns-2 t c =
     let g = c.before.before.before.before.before.before in
-    let called = c.before.before.put-decimal.ensures in (
+    let called = c.put_decimal-next.ensures in (
       omega (arith, decimal_longer g.args.n (omega arith) (omega arith)),
       rw (decimal-more g.args.n (omega arith) (omega arith), called.0, called.1) (sym (sets-append g.args.out.now g.args.at (decimal (g.args.n / 10)) _)),
     )
 
-pub +put-decimal-spec : {M : Type 1} → statement M
-+put-decimal-spec = close μ-put-decimal λ t. put-decimal-lts.spec (callees t) (put-decimal-at t) put-decimal.Post
+pub +put_decimal_spec : {M : Type 1} → statement M
++put_decimal_spec = close μ-put-decimal λ t. put-decimal-lts.spec (callees t) (put-decimal-at t) put-decimal.Post
     (put-decimal-cast-out t)
     (put-decimal-add-out t)
     (put-decimal-slice-write-out t)

@@ -28,102 +28,102 @@ was-at : (b : Bool) (n m : ℕ) → cond b (Ends n) Invalid ≡ Ends m → (b �
 was-at true n m e = (refl, cc)
 was-at false n m e = (cc, cc)
 
-returns : tie.Need-returns
-returns c = no_store _ (λ x. omega (arith, x.inside, x.rows, c.if1.true))
+returns : tie.Need-returns-then-w-lt3
+returns c = no_store _ (λ x. omega (arith, x.inside, x.rows, c.if-w-lt3.true))
 
-shared-slice-read-count : tie.Need-shared-slice-read-count
+shared-slice-read-count : tie.Need-bounds-w-0
 shared-slice-read-count c = search rules
 
-cast-count : tie.Need-overflow-cast-count
-cast-count c = Fits-widen tt (c.shared-slice-known2.given _)
+cast-count : tie.Need-overflow_cast-count
+cast-count c = Fits-widen tt (c.shared_slice_known-2-1.given _)
 
-shared-slice-read-t : tie.Need-shared-slice-read-t
+shared-slice-read-t : tie.Need-bounds-w-1
 shared-slice-read-t c = search rules
 
-shared-slice-read-used : tie.Need-shared-slice-read-used
+shared-slice-read-used : tie.Need-bounds-w-2
 shared-slice-read-used c = search rules
 
-cast-used : tie.Need-overflow-cast-used
-cast-used c = Fits-widen tt (c.shared-slice-known4.given _)
+cast-used : tie.Need-overflow_cast-used
+cast-used c = Fits-widen tt (c.shared_slice_known-4-1.given _)
 
-returns-2 : tie.Need-returns-2
-returns-2 c = no_store _ (λ x. omega (arith, x.few, c.if2.true))
+returns-2 : tie.Need-returns-then-count-gt-MOST_PREDICATES
+returns-2 c = no_store _ (λ x. omega (arith, x.few, c.if-count-gt-MOST_PREDICATES.true))
 
-returns-3 : tie.Need-returns-3
-returns-3 c = no_store _ (λ x. omega (arith, x.threshold, c.if3.true))
+returns-3 : tie.Need-returns-then-t-gt-MOST_THRESHOLD
+returns-3 c = no_store _ (λ x. omega (arith, x.threshold, c.if-t-gt-MOST_THRESHOLD.true))
 
-returns-4 : tie.Need-returns-4
-returns-4 c = no_store _ (λ x. omega (arith, x.inside, c.if4.true))
+returns-4 : tie.Need-returns-then-w-used
+returns-4 c = no_store _ (λ x. omega (arith, x.inside, c.if-w-used.true))
 
-rows-start-requires : tie.Need-rows-start-requires
+rows-start-requires : tie.Need-rows_start-requires
 rows-start-requires c κs = search rules
 
-returns-5 : tie.Need-returns-5
-returns-5 c = no_store _ (λ x. omega (arith, x.rows, c.if5.true))
+returns-5 : tie.Need-returns-then-used-rows_start
+returns-5 c = no_store _ (λ x. omega (arith, x.rows, c.if-used-rows_start.true))
 
-rows-end-requires : tie.Need-rows-end-requires
+rows-end-requires : tie.Need-rows_end-requires
 rows-end-requires c κs = search rules
 
-enum-known-first : tie.Need-enum-known-first
+enum-known-first : tie.Need-enum_known-first
 enum-known-first c = search rules
 
-enum_told : tie.Need-enum-told
+enum_told : tie.Need-enum_told-1
 enum_told c = search rules
 
-returns-6 : tie.Need-returns-6
-returns-6 c = no_store _ (λ x. not_both x.entries (was-wrong _ _ (sym c.before.before.rows-end.ensures ∙ c.enum_told.given.1)))
+returns-6 : tie.Need-returns-in_default
+returns-6 c = no_store _ (λ x. not_both x.entries (was-wrong _ _ (sym c.rows_end.ensures ∙ c.in_default.is)))
 
 -- the words, where the rows' end is known
-abbrev words : tie.After-known-told → List ℕ
-words c = c.before.before.before.before.before.before.before.before.before.before.before.before.before.before.args.w.now
+abbrev words : tie.In-Ends → List ℕ
+words c = c.args.w.now
 
 -- the entries are proper, and `first` is where the declared rows end
-ended : (c : tie.After-known-told) → (entries_proper (get_or (words c) 0 0) (words c) ≡ true) × (c.before.first.given.0.0 ≡ rows_end (get_or (words c) 0 0) (words c))
-ended c = was-at _ _ _ (sym c.before.before.before.rows-end.ensures ∙ c.before.first.given.1)
+ended : (c : tie.In-Ends) → (entries_proper (get_or (words c) 0 0) (words c) ≡ true) × (c.in-Ends.first ≡ rows_end (get_or (words c) 0 0) (words c))
+ended c = was-at _ _ _ (sym c.rows_end.ensures ∙ c.in-Ends.is)
 
-returns-7 : tie.Need-returns-7
-returns-7 c = no_store _ (λ x. omega (arith, x.rows, c.if6.true, (ended c.before).1))
+returns-7 : tie.Need-returns-then-used-first
+returns-7 c = no_store _ (λ x. omega (arith, x.rows, c.if-used-first.true, (ended c.before).1))
 
 -- what is asked before the rows
-asked : (c : tie.Else6) → Parts (words c.before)
+asked : (c : tie.Else-used-first) → Parts (words c.before)
 asked c = record {
   few = search rules;
   threshold = search rules;
   inside = search rules;
   entries = (ended c.before).0;
-  rows = omega (arith, c.if6.false, (ended c.before).1);
+  rows = omega (arith, c.if-used-first.false, (ended c.before).1);
 }
 
-tables-proper-requires : tie.Need-tables-proper-requires
+tables-proper-requires : tie.Need-tables_proper-requires
 tables-proper-requires c κs = let x = asked c in (x.few, x.entries, omega (arith, x.rows, x.inside))
 
-cast-semi-joins-hold : tie.Need-overflow-cast-semi-joins-hold
+cast-semi-joins-hold : tie.Need-overflow_cast-t
 cast-semi-joins-hold c = search rules
 
-semi-joins-hold-requires : tie.Need-semi-joins-hold-requires
+semi-joins-hold-requires : tie.Need-semi_joins_hold-requires
 semi-joins-hold-requires c κs =
     let before = c.before.before in
     let x = asked before in
     record {
-      image = words_image _ x (sym c.before.tables-proper.ensures ∙ c.if7.true);
+      image = words_image _ x (sym c.tables_proper.ensures ∙ c.if-tables_proper.true);
       threshold = x.threshold;
       begins = (ended before.before).1 ∙ sym (stored-start _ x);
-      ordered = before.if6.false;
+      ordered = before.if-used-first.false;
       inside = x.inside;
     }
 
-returns-8 : tie.Need-returns-8
+returns-8 : tie.Need-returns-then-tables_proper
 returns-8 c =
     let tables = c.before.before in
-    rows_good _ (asked tables.before) (sym tables.tables-proper.ensures ∙ c.before.if7.true) c.semi-joins-hold.ensures
+    rows_good _ (asked tables.before) (sym tables.tables_proper.ensures ∙ c.if-tables_proper.true) c.semi_joins_hold.ensures
 
-returns-9 : tie.Need-returns-9
+returns-9 : tie.Need-returns-else-tables_proper
 returns-9 c =
     let tables = c.before in
-    rows_bad _ (asked tables.before) (sym tables.tables-proper.ensures ∙ c.if7.false) c.if7.false
+    rows_bad _ (asked tables.before) (sym tables.tables_proper.ensures ∙ c.if-tables_proper.false) c.if-tables_proper.false
 
-pub is-store-spec : {M : Type 1} → statement M
-is-store-spec =
+pub is_store_spec : {M : Type 1} → statement M
+is_store_spec =
     tie.close
     (tie.spec
     returns
