@@ -1,4 +1,3 @@
 -- Laws that the proofs of this crate cite.
 pub mod Checks
 pub mod GivenPlans
-pub mod Reported

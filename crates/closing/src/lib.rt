@@ -1,3 +1,4 @@
-// The public calls, and their wrappers for C. No `requires` stands in this crate.
+// The public calls. Their wrappers for C stand in `closing_c`. No `requires` stands in this crate.
+#![tactic(auto)]
+
 pub mod calls;
-pub mod exports;

@@ -1,7 +1,7 @@
 ghost use Rattle.std.specs.Prelude.{◌≡◌, []};
 ghost use Rattle.model.specs.Calls.{seen, seen_of, seen_of_answer, seen_of_plan, build as build_outcome, plan as plan_answer, run as run_outcome, whether as whether_answer};
 
-use crate::calls::{build, plan, run, whether};
+use closing::calls::{build, plan, run, whether};
 use reporting::report::report;
 
 // `build` for C: returns 0, or the refusal's number and then neither the store nor the answer is altered.
