@@ -1,5 +1,5 @@
 ghost use Rattle.std.specs.Prelude.{◌≡◌, ◌≤◌, length, take};
-ghost use Rattle.io.specs.Counts.{IsPrefixLen};
+ghost use Rattle.std.specs.Counts.{IsPrefixLen};
 ghost use Rattle.model.specs.Chain.{site_buffer_bytes, check_buffer_bytes};
 ghost use Rattle.model.specs.Files.{taken};
 ghost use Rattle.model.specs.Text.{screen};

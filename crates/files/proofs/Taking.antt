@@ -5,15 +5,11 @@ use mathlib.Core.Path.{◌≡◌, refl}
 use mathlib.Core.Bool.{true, false, cond, false≢true}
 use lib.IntN.{ℤ, pos, negsuc}
 use lib.Dec.{eqb}
-use lib.Signed.{lt_z, le_z}
+use lib.Signed.{lt_z}
 use mir.Syntax.{w64}
 use mir.Val.{of_z}
-use borrow.Author.Tests.{ltb-false, leb-true}
+use borrow.Author.Tests.{ltb-false}
 use Rattle.model.specs.Files.{taken_size}
-
--- it did not say that there may be more
-pub no_more : {X : Type 0} {said : ℤ} {n : ℕ} → le_z said (pos 0) ≡ true → said ≡ pos (suc n) → X
-no_more {n = n} h e = let l = leb-true (suc n) 0 (rw e at h) in absurd (omega arith)
 
 module _ (room size : ℕ) where
   pub all-taken : {said : ℤ} → said ≡ pos 0 → taken_size room size said ≡ size

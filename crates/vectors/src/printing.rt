@@ -1,5 +1,7 @@
 use model::answer::Answer;
 use model::plan::Plan;
+use std::io;
+use std::io::Write;
 
 fn is_unaltered(store: &[u32]) -> bool {
     for i in 0..store.len() {
@@ -15,46 +17,36 @@ fn word(x: u32) -> u64 {
 }
 
 // The words lent, or that each is 7 as before.
-pub fn print_words(store: &[u32]) {
+pub fn print_words<W: Write>(out: &mut W, store: &[u32]) -> io::Result<()> {
     if is_unaltered(store) {
-        io::write_all(1, b" unaltered");
+        out.write_all(b" unaltered")?;
     } else {
         for i in 0..store.len() {
-            io::write_all(1, b" ");
-            io::print_decimal(1, word(store[i]));
+            print_number(out, b" ", word(store[i]))?;
         }
     }
-    io::write_all(1, b"\n");
+    out.write_all(b"\n")
 }
 
-fn print_number(name: &[u8], number: u32) {
-    io::write_all(1, name);
-    io::print_decimal(1, number as u64);
+fn print_number<W: Write>(out: &mut W, name: &[u8], number: u64) -> io::Result<()> {
+    out.write_all(name)?;
+    write!(out, "{number}")
 }
 
-fn print_rows(count: u64, width: u32) {
-    io::write_all(1, b"rows ");
-    io::print_decimal(1, count);
-    print_number(b" ", width);
+fn print_rows<W: Write>(out: &mut W, count: u64, width: u32) -> io::Result<()> {
+    print_number(out, b"rows ", count)?;
+    print_number(out, b" ", word(width))
 }
 
-pub fn print_answer(answer: Answer) {
+pub fn print_answer<W: Write>(out: &mut W, answer: Answer) -> io::Result<()> {
     match answer {
-        Answer::Built(used) => print_number(b"built ", used),
-        Answer::Refused(number) => print_number(b"refused ", number),
-        Answer::Rows(count, width) => print_rows(count, width),
-        Answer::None => {
-            io::write_all(1, b"none");
-        }
-        Answer::Plan => {
-            io::write_all(1, b"plan");
-        }
-        Answer::Yes => {
-            io::write_all(1, b"yes");
-        }
-        Answer::No => {
-            io::write_all(1, b"no");
-        }
+        Answer::Built(used) => print_number(out, b"built ", word(used)),
+        Answer::Refused(number) => print_number(out, b"refused ", word(number)),
+        Answer::Rows(count, width) => print_rows(out, count, width),
+        Answer::None => out.write_all(b"none"),
+        Answer::Plan => out.write_all(b"plan"),
+        Answer::Yes => out.write_all(b"yes"),
+        Answer::No => out.write_all(b"no"),
     }
 }
 
@@ -63,14 +55,12 @@ fn byte(x: u8) -> u64 {
 }
 
 // The count of steps, and all sixteen numbers.
-pub fn print_plan(plan: Plan) {
+pub fn print_plan<W: Write>(out: &mut W, plan: Plan) -> io::Result<()> {
     let steps = plan.steps;
-    io::write_all(1, b" ");
-    io::print_decimal(1, plan.count as u64);
-    io::write_all(1, b":");
+    print_number(out, b" ", plan.count as u64)?;
+    out.write_all(b":")?;
     for i in 0..16 {
-        io::write_all(1, b" ");
-        io::print_decimal(1, byte(steps[i]));
+        print_number(out, b" ", byte(steps[i]))?;
     }
-    io::write_all(1, b"\n");
+    out.write_all(b"\n")
 }
