@@ -10,12 +10,12 @@ before=$out/before-$commit.a
 mkdir -p "$out"
 
 echo 'proving and building the archive ...'
-rt staticlib closing >"$out/archive.log" 2>&1 || { tail -n 20 "$out/archive.log"; exit 1; }
+tools/build archive
 
 if [ ! -f "$before" ]; then
   echo "proving and building the archive of $commit ..."
   rm -rf "$out/before" && git clone -q --no-checkout . "$out/before" && git -C "$out/before" checkout -q "$commit"
-  (cd "$out/before" && rt staticlib closing) >"$out/before.log" 2>&1 || { tail -n 20 "$out/before.log"; exit 1; }
+  (cd "$out/before" && tools/build archive)
   objcopy --redefine-sym closing_build=before_build --redefine-sym closing_plan=before_plan --redefine-sym closing_run=before_run \
     --redefine-sym closing_whether=before_whether "$out/before/target/staticlib/libclosing.a" "$before"
 fi
