@@ -1,6 +1,6 @@
 /* closing.h - the closing-check engine: builds a site's tables, plans a check over them, runs it or tells whether it has a solution.
  *
- * Link with libclosing.a, which `rt staticlib closing` writes; x86-64 Linux. What each call does is proved, for every input, against
+ * Link with libclosing.a, which `tools/build archive` writes; x86-64 Linux. What each call does is proved, for every input, against
  * the definitions in crates/model/specs/Calls.antt; this text says it in words. "01" is the project's scope document.
  *
  * THE FOUR CALLS. closing_build turns the file of a site into a store, closing_plan plans a check over a store, closing_run runs a
