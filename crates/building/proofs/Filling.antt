@@ -15,7 +15,7 @@ use Rattle.model.proofs.Blocks.{element_block, get_or_block, head_block, concat_
 use Rattle.model.proofs.StoreLayout.{length-table, entry_block, semi_join_entry, semi_join-entries, layout_used}
 use Rattle.tables.specs.SiteWords.{site_in, ImageOf, no_reduced, reduced_at, CountsIn}
 use Rattle.tables.proofs.Reduced.{length_entries_of, entries-more, stored_words-more, take_more, length_all_of}
-use Rattle.model.proofs.Setting.{sets-append, get_d_sets, sets_block}
+use Rattle.model.proofs.Setting.{sets-append, get_or-sets, sets_block}
 use Rattle.tables.proofs.Images.{image_unchanged, few_predicates, few_semi_joins, entries_inside}
 
 -- ---- one semi-join more
@@ -125,7 +125,7 @@ module _ {count : ℕ} {image₀ : List ℕ} (o : ImageOf count image₀) where
 
     pub counts_fronted : CountsIn count (sets entered 0 front)
     counts_fronted = record {
-      counts = λ x h. get_d_sets entered 0 front (vp_entry_at count + 2 * x) 0 (omega arith) ∙ rw image_fronted.1 (entry-count x h);
+      counts = λ x h. get_or-sets entered 0 front (vp_entry_at count + 2 * x) 0 (omega arith) ∙ rw image_fronted.1 (entry-count x h);
     }
 
 -- ---- the rows in the store

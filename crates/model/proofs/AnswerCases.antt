@@ -5,7 +5,7 @@ use mathlib.Core.Option.{none, some}
 use mathlib.Core.List.{List, [], ◌∷◌, ◌++◌, map}
 use lib.ListN.{take, replicate}
 use Rattle.model.specs.Lists.{concat_map, below}
-use Rattle.model.specs.Numbers.{limits_of01}
+use Rattle.model.specs.Numbers.{limits_of_01}
 use Rattle.model.specs.SiteFile.{read_site}
 use Rattle.model.specs.PatternFile.{read_pattern}
 use Rattle.model.specs.Plan.{Plan}
@@ -268,26 +268,26 @@ one_row_apart s o = 1 ∷ 1000 ∷ 16 ∷ 0 ∷ 1 ∷ 14 ∷ 1 ∷ 0 ∷ 0 ∷ 0
 abbrev pub widened_cases : List Case
 widened_cases =
     -- four bytes of a number were too many: 2, and now 3; predicate 65,536 was 4, subject and object 65,536 were 6
-    (build_under limits_of01 1000 (0x80 ∷ 0x80 ∷ 0x80 ∷ 0x01 ∷ []) [], outcome (Refused 2) [])
+    (build_under limits_of_01 1000 (0x80 ∷ 0x80 ∷ 0x80 ∷ 0x01 ∷ []) [], outcome (Refused 2) [])
     ∷ (build 1000 (0x80 ∷ 0x80 ∷ 0x80 ∷ 0x01 ∷ []) [], outcome (Refused 3) [])
-    ∷ (build_under limits_of01 1000 (0x01 ∷ 0x80 ∷ 0x80 ∷ 0x04 ∷ 0x00 ∷ []) (lent 14), outcome (Refused 4) (lent 14))
+    ∷ (build_under limits_of_01 1000 (0x01 ∷ 0x80 ∷ 0x80 ∷ 0x04 ∷ 0x00 ∷ []) (lent 14), outcome (Refused 4) (lent 14))
     ∷ (build 1000 (0x01 ∷ 0x80 ∷ 0x80 ∷ 0x04 ∷ 0x00 ∷ []) (lent 14), outcome (Built 14) (1 ∷ 1000 ∷ 14 ∷ 65536 ∷ 0 ∷ 14 ∷ replicate 8 0))
-    ∷ (build_under limits_of01 1000 (0x01 ∷ 0x00 ∷ 0x01 ∷ 0x80 ∷ 0x80 ∷ 0x04 ∷ 0x01 ∷ []) (lent 16), outcome (Refused 6) (lent 16))
+    ∷ (build_under limits_of_01 1000 (0x01 ∷ 0x00 ∷ 0x01 ∷ 0x80 ∷ 0x80 ∷ 0x04 ∷ 0x01 ∷ []) (lent 16), outcome (Refused 6) (lent 16))
     ∷ (build 1000 (0x01 ∷ 0x00 ∷ 0x01 ∷ 0x80 ∷ 0x80 ∷ 0x04 ∷ 0x01 ∷ []) (lent 16), outcome (Built 16) (one_row_apart 65536 1))
-    ∷ (build_under limits_of01 1000 (0x01 ∷ 0x00 ∷ 0x01 ∷ 0x01 ∷ 0x80 ∷ 0x80 ∷ 0x04 ∷ []) (lent 16), outcome (Refused 6) (lent 16))
+    ∷ (build_under limits_of_01 1000 (0x01 ∷ 0x00 ∷ 0x01 ∷ 0x01 ∷ 0x80 ∷ 0x80 ∷ 0x04 ∷ []) (lent 16), outcome (Refused 6) (lent 16))
     ∷ (build 1000 (0x01 ∷ 0x00 ∷ 0x01 ∷ 0x01 ∷ 0x80 ∷ 0x80 ∷ 0x04 ∷ []) (lent 16), outcome (Built 16) (one_row_apart 1 65536))
     -- words that were no store
-    ∷ (run_under limits_of01 (one_row 65536) [] [] [], outcome (Refused 10) [])
+    ∷ (run_under limits_of_01 (one_row 65536) [] [] [], outcome (Refused 10) [])
     ∷ (run (one_row 65536) [] [] [], outcome (Refused 11) [])
     -- a check's number of four bytes was 11, and is 12; predicate 65,536 was 13, and is 14; subject 65,536 was 15
-    ∷ (run_under limits_of01 (one_row 0) (0x80 ∷ 0x80 ∷ 0x80 ∷ 0x01 ∷ []) [] [], outcome (Refused 11) [])
+    ∷ (run_under limits_of_01 (one_row 0) (0x80 ∷ 0x80 ∷ 0x80 ∷ 0x01 ∷ []) [] [], outcome (Refused 11) [])
     ∷ (run (one_row 0) (0x80 ∷ 0x80 ∷ 0x80 ∷ 0x01 ∷ []) [] [], outcome (Refused 12) [])
-    ∷ (run_under limits_of01 (one_row 0) (0x01 ∷ 0x01 ∷ 0x80 ∷ 0x80 ∷ 0x08 ∷ []) [] [], outcome (Refused 13) [])
+    ∷ (run_under limits_of_01 (one_row 0) (0x01 ∷ 0x01 ∷ 0x80 ∷ 0x80 ∷ 0x08 ∷ []) [] [], outcome (Refused 13) [])
     ∷ (run (one_row 0) (0x01 ∷ 0x01 ∷ 0x80 ∷ 0x80 ∷ 0x08 ∷ []) [] [], outcome (Refused 14) [])
-    ∷ (run_under limits_of01 (one_row 0) (0x01 ∷ 0x80 ∷ 0x80 ∷ 0x08 ∷ 0x00 ∷ 0x01 ∷ []) (0x00 ∷ 0x00 ∷ []) [], outcome (Refused 15) [])
+    ∷ (run_under limits_of_01 (one_row 0) (0x01 ∷ 0x80 ∷ 0x80 ∷ 0x08 ∷ 0x00 ∷ 0x01 ∷ []) (0x00 ∷ 0x00 ∷ []) [], outcome (Refused 15) [])
     ∷ (run (one_row 0) (0x01 ∷ 0x80 ∷ 0x80 ∷ 0x08 ∷ 0x00 ∷ 0x01 ∷ []) (0x00 ∷ 0x00 ∷ []) [], outcome None [])
     -- a choice of four bytes was 18, and is 20
-    ∷ (run_under limits_of01 (one_row 0) (0x01 ∷ 0x01 ∷ 0x00 ∷ 0x01 ∷ []) (0x00 ∷ 0x80 ∷ 0x80 ∷ 0x80 ∷ 0x01 ∷ []) [], outcome (Refused 18) [])
+    ∷ (run_under limits_of_01 (one_row 0) (0x01 ∷ 0x01 ∷ 0x00 ∷ 0x01 ∷ []) (0x00 ∷ 0x80 ∷ 0x80 ∷ 0x80 ∷ 0x01 ∷ []) [], outcome (Refused 18) [])
     ∷ (run (one_row 0) (0x01 ∷ 0x01 ∷ 0x00 ∷ 0x01 ∷ []) (0x00 ∷ 0x80 ∷ 0x80 ∷ 0x80 ∷ 0x01 ∷ []) [], outcome (Refused 20) [])
     ∷ []
 

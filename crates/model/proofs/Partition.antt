@@ -23,7 +23,7 @@ concat_map_nothing : {A B : Type 0} (f : A → List B) (l : List A) → ((a : A)
 concat_map_nothing f [] h = refl
 concat_map_nothing f (x ∷ xs) h = rw (h x (Memᴰ.head refl), concat_map_nothing f xs (λ a m. h a (Memᴰ.tail m))) refl
 
--- ---- what `isSite` says
+-- ---- what `is_site` says
 
 abbrev predicates : Site → List ℕ
 predicates site = map (λ t. t.predicate) site

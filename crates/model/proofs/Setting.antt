@@ -27,9 +27,9 @@ module _ {A : Type 0} where
   drop-sets l i [] j h = refl
   drop-sets l i (v ∷ vs) j h = drop-sets (set l i v) (suc i) vs j (omega arith) ∙ drop-set-lt j l i v (omega arith)
 
-  pub get_d_sets : (l : List A) (i : ℕ) (vs : List A) (j : ℕ) (d : A) → i + length vs ≤ j → get_or (sets l i vs) j d ≡ get_or l j d
-  get_d_sets l i [] j d h = refl
-  get_d_sets l i (v ∷ vs) j d h = get_d_sets (set l i v) (suc i) vs j d (omega arith) ∙ get_or-set_other l i j v d (omega arith)
+  pub get_or-sets : (l : List A) (i : ℕ) (vs : List A) (j : ℕ) (d : A) → i + length vs ≤ j → get_or (sets l i vs) j d ≡ get_or l j d
+  get_or-sets l i [] j d h = refl
+  get_or-sets l i (v ∷ vs) j d h = get_or-sets (set l i v) (suc i) vs j d (omega arith) ∙ get_or-set_other l i j v d (omega arith)
 
   -- what stands before it
   pub get_or_before : (l : List A) (i : ℕ) (vs : List A) (j : ℕ) (d : A) → j < i → get_or (sets l i vs) j d ≡ get_or l j d

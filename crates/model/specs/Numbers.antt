@@ -23,8 +23,8 @@ abbrev pub limits_in_force : Limits
 limits_in_force = record { bytes = most_number_bytes; term = most_term }
 
 -- those of document 01, in force before
-abbrev pub limits_of01 : Limits
-limits_of01 = record { bytes = 3; term = 65535 }
+abbrev pub limits_of_01 : Limits
+limits_of_01 = record { bytes = 3; term = 65535 }
 
 abbrev pub is_term_under : Limits → ℕ → Bool
 is_term_under limits t = leb t limits.term

@@ -63,7 +63,7 @@ module _ (t count : ℕ) (words : List ℕ) (used : ℕ) where
   unfolding semi_join_entries
   joined_none h = record { place = omega arith; room = h; entries = refl; rows = refl }
 
-  -- what `joinsHold` says, as equations
+  -- what `joins_hold` says, as equations
   record AllHeld : Type 0 where
     entries : take (2 * (count * (count * kind_count))) (drop (vp_entry_at count) words) ≡ semi_join_entries t first all
     rows : take (used - first) (drop first words) ≡ stored_words t all

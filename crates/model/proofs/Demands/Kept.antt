@@ -7,7 +7,7 @@ use mathlib.Core.Option.{some}
 use mathlib.Core.List.{List, ◌∷◌, ◌++◌}
 use lib.ListN.{length}
 use Rattle.model.specs.Reader.{refused, gives}
-use Rattle.model.specs.Numbers.{Limits, limits_in_force, limits_of01}
+use Rattle.model.specs.Numbers.{Limits, limits_in_force, limits_of_01}
 use Rattle.model.specs.Site.{Site, is_site_under}
 use Rattle.model.specs.SiteFile.{read_site_under, read_site}
 use Rattle.model.specs.Tables.{most_threshold}
@@ -67,66 +67,66 @@ wider_limits_keep_calls old new no-narrower = (
 
 -- ==== Files accepted before mean what they meant: every file that the limits 3 and 65,535 accept gives the same site, pattern or plan
 
-widened : NoNarrower limits_of01 limits_in_force
+widened : NoNarrower limits_of_01 limits_in_force
 widened = record { longer = omega arith; wider = omega arith }
 
 abbrev pub FilesMeanWhatTheyMeant : Type 0
 FilesMeanWhatTheyMeant =
-    ((bytes : List ℕ) (site : Site) → read_site_under limits_of01 bytes ≡ gives site → read_site bytes ≡ gives site)
-    × ((site : Site) (bytes : List ℕ) (pattern : Pattern) → read_pattern_under limits_of01 site bytes ≡ gives pattern → read_pattern site bytes ≡ gives pattern)
+    ((bytes : List ℕ) (site : Site) → read_site_under limits_of_01 bytes ≡ gives site → read_site bytes ≡ gives site)
+    × ((site : Site) (bytes : List ℕ) (pattern : Pattern) → read_pattern_under limits_of_01 site bytes ≡ gives pattern → read_pattern site bytes ≡ gives pattern)
     × ((store : Store) (pattern : Pattern) (bytes : List ℕ) (given : Plan)
-    → read_plan_under limits_of01 store pattern bytes ≡ gives given → read_plan store pattern bytes ≡ gives given)
+    → read_plan_under limits_of_01 store pattern bytes ≡ gives given → read_plan store pattern bytes ≡ gives given)
 
 pub files_mean_what_they_meant : FilesMeanWhatTheyMeant
 files_mean_what_they_meant =
-    let kept = wider_limits_keep_files limits_of01 limits_in_force widened in
+    let kept = wider_limits_keep_files limits_of_01 limits_in_force widened in
     ((λ bytes site. gives_still (kept.0 bytes)), (λ site bytes pattern. gives_still (kept.1 site bytes)), λ store pattern bytes given. gives_still (kept.2 store pattern bytes))
 
 -- so whatever a call answered, it answers with the same words in the lent memory: Built, a plan, rows or none, yes or no
 abbrev pub CallsAnswerAsTheyDid : Type 0
 CallsAnswerAsTheyDid =
-    ((t : ℕ) (bytes memory : List ℕ) → is_refused (build_under limits_of01 t bytes memory).answer ≡ false → build t bytes memory ≡ build_under limits_of01 t bytes memory)
-    × ((words bytes : List ℕ) → is_refused (plan_under limits_of01 words bytes).answer ≡ false → plan words bytes ≡ plan_under limits_of01 words bytes)
+    ((t : ℕ) (bytes memory : List ℕ) → is_refused (build_under limits_of_01 t bytes memory).answer ≡ false → build t bytes memory ≡ build_under limits_of_01 t bytes memory)
+    × ((words bytes : List ℕ) → is_refused (plan_under limits_of_01 words bytes).answer ≡ false → plan words bytes ≡ plan_under limits_of_01 words bytes)
     × ((words bytes steps memory : List ℕ)
-    → is_refused (run_under limits_of01 words bytes steps memory).answer ≡ false → run words bytes steps memory ≡ run_under limits_of01 words bytes steps memory)
+    → is_refused (run_under limits_of_01 words bytes steps memory).answer ≡ false → run words bytes steps memory ≡ run_under limits_of_01 words bytes steps memory)
     × ((words bytes steps : List ℕ)
-    → is_refused (whether_under limits_of01 words bytes steps) ≡ false → whether words bytes steps ≡ whether_under limits_of01 words bytes steps)
+    → is_refused (whether_under limits_of_01 words bytes steps) ≡ false → whether words bytes steps ≡ whether_under limits_of_01 words bytes steps)
 
 -- the numbers of all questions that ask the limits, of words too
 abbrev asked : List ℕ
 asked = 10 ∷ (pattern_asks ++ plan_asks)
 
-store-reply : (words : List ℕ) → KeptBut asked refused (store_reply (store_of_under limits_of01 words)) (store_reply (store_of words))
-store-reply = words_kept limits_of01 limits_in_force widened asked (listed 10 asked refl)
+store-reply : (words : List ℕ) → KeptBut asked refused (store_reply (store_of_under limits_of_01 words)) (store_reply (store_of words))
+store-reply = words_kept limits_of_01 limits_in_force widened asked (listed 10 asked refl)
 
 pub calls_answer_as_they_did : CallsAnswerAsTheyDid
 unfolding is_refused
 calls_answer_as_they_did = (
-  (λ t bytes memory. answer_still (λ o. is_refused o.answer) (λ n. refl) (build_kept limits_of01 limits_in_force widened site_asks refl t bytes memory)),
-  (λ words bytes. answer_still (λ o. is_refused o.answer) (λ n. refl) (plan_call_kept limits_of01 limits_in_force widened asked refl words (store-reply words) bytes)),
+  (λ t bytes memory. answer_still (λ o. is_refused o.answer) (λ n. refl) (build_kept limits_of_01 limits_in_force widened site_asks refl t bytes memory)),
+  (λ words bytes. answer_still (λ o. is_refused o.answer) (λ n. refl) (plan_call_kept limits_of_01 limits_in_force widened asked refl words (store-reply words) bytes)),
   (λ words bytes steps memory.
-      answer_still (λ o. is_refused o.answer) (λ n. refl) (run_kept limits_of01 limits_in_force widened asked refl words (store-reply words) bytes refl steps memory)),
-  λ words bytes steps. answer_still is_refused (λ n. refl) (whether_kept limits_of01 limits_in_force widened asked refl words (store-reply words) bytes refl steps),
+      answer_still (λ o. is_refused o.answer) (λ n. refl) (run_kept limits_of_01 limits_in_force widened asked refl words (store-reply words) bytes refl steps memory)),
+  λ words bytes steps. answer_still is_refused (λ n. refl) (whether_kept limits_of_01 limits_in_force widened asked refl words (store-reply words) bytes refl steps),
 )
 
 -- the words of a site within the limits of 01, whatever stands past them, are its store, and what is a store under them is one; a store that was
 -- kept from before S-14 lists three kinds, and is none (three_kinds_refused, of SharedObjects)
 abbrev pub StoresAreStoresStill : Type 0
 StoresAreStoresStill =
-    ((t : ℕ) (site : Site) (rest : List ℕ) → t ≤ most_threshold → is_site_under limits_of01 site ≡ true → Holds (layout t site ++ rest) t site)
-    × ((words : List ℕ) (store : Store) → store_of_under limits_of01 words ≡ some store → store_of words ≡ some store)
+    ((t : ℕ) (site : Site) (rest : List ℕ) → t ≤ most_threshold → is_site_under limits_of_01 site ≡ true → Holds (layout t site ++ rest) t site)
+    × ((words : List ℕ) (store : Store) → store_of_under limits_of_01 words ≡ some store → store_of words ≡ some store)
 
 pub stores_are_stores_still : StoresAreStoresStill
 stores_are_stores_still = (
-  (λ t site rest threshold was. built_holds t site rest threshold (site_still limits_of01 limits_in_force widened site was)),
-  λ words store. store_still limits_of01 limits_in_force widened words,
+  (λ t site rest threshold was. built_holds t site rest threshold (site_still limits_of_01 limits_in_force widened site was)),
+  λ words store. store_still limits_of_01 limits_in_force widened words,
 )
 
 -- and the check program shows of a site and a check that were accepted what it did: their solutions
 abbrev pub ChainShowsWhatItDid : Type 0
 ChainShowsWhatItDid =
     (file check memory : List ℕ) (site : Site) (pattern : Pattern)
-    → read_site_under limits_of01 file ≡ gives site → length (layout chain_threshold site) ≤ chain_store_words → read_pattern_under limits_of01 site check ≡ gives pattern
+    → read_site_under limits_of_01 file ≡ gives site → length (layout chain_threshold site) ≤ chain_store_words → read_pattern_under limits_of_01 site check ≡ gives pattern
     → chain file check memory ≡ rows_outcome (width pattern) (solutions site pattern) memory
 
 pub chain_shows_what_it_did : ChainShowsWhatItDid

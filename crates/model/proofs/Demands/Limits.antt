@@ -1,6 +1,6 @@
 -- The limits, as the numbers that documents 01 and 02 write.
 use mathlib.Core.Path.{◌≡◌, refl}
-use Rattle.model.specs.Numbers.{most_number_bytes, most_term, limits_of01}
+use Rattle.model.specs.Numbers.{most_number_bytes, most_term, limits_of_01}
 use Rattle.model.specs.Site.{most_predicates, most_rows}
 use Rattle.model.specs.Tables.{most_threshold}
 use Rattle.model.specs.Pattern.{most_triple_patterns, most_variables}
@@ -24,8 +24,8 @@ LimitsAre =
     × (chain_row_words ≡ 4096)
     × (site_buffer_bytes ≡ 8448)
     × (check_buffer_bytes ≡ 128)
-    × (limits_of01.bytes ≡ 3)
-    × (limits_of01.term ≡ 65535)
+    × (limits_of_01.bytes ≡ 3)
+    × (limits_of_01.term ≡ 65535)
 
 pub limits_are : LimitsAre
 limits_are = (refl, refl, refl, refl, refl, refl, refl, refl, refl, refl, refl, refl, refl, refl)

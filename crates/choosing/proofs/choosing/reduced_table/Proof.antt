@@ -1,4 +1,4 @@
--- Each return by the tests of `chooseableTable` that led there.
+-- Each return by the tests of `chooseable_table` that led there.
 use mathlib.Core.Path.{◌≡◌, refl, sym, ◌∙◌}
 use mathlib.Core.Bool.{Bool, cond}
 use borrow.Author.Rules.{rules}

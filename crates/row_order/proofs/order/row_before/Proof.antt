@@ -1,4 +1,4 @@
--- Each way out of the test is a row of `rowBefore`'s cases.
+-- Each way out of the test is a row of `row_before`'s cases.
 use borrow.Author.Tests.{lt-ltb, le-ltb, eq-eqb, ne_eqb}
 use Rattle.row_order.proofs.order.row_before.Statement.{statement}
 use Rattle.row_order.proofs.order.row_before.Tie as tie

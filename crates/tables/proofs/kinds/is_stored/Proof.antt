@@ -1,4 +1,4 @@
--- The test's two halves are those of `isStored`; the product fits, as its factors are small.
+-- The test's two halves are those of `is_stored`; the product fits, as its factors are small.
 use Prim.Native.Nat.{◌*◌, ◌≤◌}
 use native.Mathlib.Nat.{mul-le-mul}
 use native.Mathlib.Omega.{arith}
