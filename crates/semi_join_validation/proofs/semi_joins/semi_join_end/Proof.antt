@@ -101,7 +101,7 @@ module _ (c : tie.After-columns_apart) where
   differ : range_at first.args.p (own operands) ≢ range_at first.args.q (other operands)
   differ e =
       let ranged = c.before.before in
-      c.if-a-b.false (omega (arith, e, ranged.range_at-a.ensures, ranged.range_at-b.ensures, (own_column operands).0, (partner_column operands).0))
+      omega (arith, e, ranged.range_at-a.ensures, ranged.range_at-b.ensures, (own_column operands).0, (partner_column operands).0)
 
   -- no row is left, if they are apart
   none : c.columns_apart.result ≡ true → length (semiJoinOf first).rows ≡ 0

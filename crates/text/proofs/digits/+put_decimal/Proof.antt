@@ -37,7 +37,7 @@ put-decimal-add-out : (t : ℕ) → put-decimal-lts.Need-overflow_add-out (calle
 put-decimal-add-out t c = search rules
 
 put-decimal-slice-write-out : (t : ℕ) → put-decimal-lts.Need-bounds-out-at (callees t) (put-decimal-at t) put-decimal.Post
-put-decimal-slice-write-out t c = omega (arith, ap length (decimal_digit c.args.n c.if-n-lt10.true))
+put-decimal-slice-write-out t c = omega (arith, ap length (decimal_digit c.args.n (omega arith)))
 
 put-decimal-add-result : (t : ℕ) → put-decimal-lts.Need-overflow_add-result (callees t) (put-decimal-at t) put-decimal.Post
 put-decimal-add-result t c = search rules
