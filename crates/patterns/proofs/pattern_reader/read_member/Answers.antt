@@ -1,5 +1,6 @@
 -- One triple pattern is read, position by position, each with its question; each return is a way out of a triple pattern.
 use Prim.Native.Nat.{◌≤◌}
+use native.Mathlib.Omega.{arith}
 use mathlib.Core.Path.{◌≡◌, sym, ◌∙◌}
 use borrow.Author.Tests.{le-leb, lt-leb}
 use Rattle.model.specs.Store.{decoded}
@@ -35,7 +36,7 @@ returns-in_default-read_number c =
       };
       question = c.position_refusal-subject_refusal.ensures;
     } in
-    no_predicate _ _ _ _ (subject-asked) c.if-subject_refusal-ne0.false (sym c.read_number-2.ensures ∙ c.in_default-read_number.is)
+    no_predicate _ _ _ _ (subject-asked) (omega arith) (sym c.read_number-2.ensures ∙ c.in_default-read_number.is)
 
 pub returns-in_default-predicate : goal.returns-in_default-predicate
 returns-in_default-predicate c =
@@ -52,7 +53,7 @@ returns-in_default-predicate c =
       stands = sym c.read_number-2.ensures ∙ c.in-Value-read_number.is;
       position = sym e ∙ c.position_of-predicate.ensures;
     } in
-    predicate_variable _ _ _ _ (subject-asked) c.if-subject_refusal-ne0.false (predicate-read _ c.in_default-predicate.is)
+    predicate_variable _ _ _ _ (subject-asked) (omega arith) (predicate-read _ c.in_default-predicate.is)
 
 pub returns-then-term-gt-MOST_TERM : goal.returns-then-term-gt-MOST_TERM
 returns-then-term-gt-MOST_TERM c =
@@ -69,7 +70,7 @@ returns-then-term-gt-MOST_TERM c =
       stands = sym c.read_number-2.ensures ∙ c.in-Value-read_number.is;
       position = sym e ∙ c.position_of-predicate.ensures;
     } in
-    wide_predicate _ _ _ _ (subject-asked) c.if-subject_refusal-ne0.false (predicate-read _ c.in-Term.is) (lt-leb _ _ c.if-term-gt-MOST_TERM.true)
+    wide_predicate _ _ _ _ (subject-asked) (omega arith) (predicate-read _ c.in-Term.is) (lt-leb _ _ c.if-term-gt-MOST_TERM.true)
 
 pub returns-in_default-predicate_place : goal.returns-in_default-predicate_place
 returns-in_default-predicate_place c =
@@ -86,7 +87,7 @@ returns-in_default-predicate_place c =
       stands = sym c.read_number-2.ensures ∙ c.in-Value-read_number.is;
       position = sym e ∙ c.position_of-predicate.ensures;
     } in
-    undeclared _ _ _ _ (subject-asked) c.if-subject_refusal-ne0.false (predicate-read _ c.in-Term.is) (le-leb _ _ c.if-term-gt-MOST_TERM.false)
+    undeclared _ _ _ _ (subject-asked) (omega arith) (predicate-read _ c.in-Term.is) (le-leb _ _ (omega arith))
     (sym c.predicate_place.ensures ∙ c.in_default-predicate_place.is)
 
 pub returns-in_default-read_number-2 : goal.returns-in_default-read_number-2
@@ -105,12 +106,12 @@ returns-in_default-read_number-2 c =
       position = sym e ∙ c.position_of-predicate.ensures;
     } in
     let predicate-placed : place_of (decoded c.args.w.now).site c.in-Term.term ≡ At c.in-At.table = sym c.predicate_place.ensures ∙ c.in-At.is in
-    no_object _ _ _ _ (subject-asked) c.if-subject_refusal-ne0.false (predicate-read _ c.in-Term.is) (le-leb _ _ c.if-term-gt-MOST_TERM.false) (predicate-placed)
+    no_object _ _ _ _ (subject-asked) (omega arith) (predicate-read _ c.in-Term.is) (le-leb _ _ (omega arith)) (predicate-placed)
     (sym c.read_number-3.ensures ∙ c.in_default-read_number-2.is)
 
 pub variables_with-met_then-requires : goal.variables_with-met_then-requires
 variables_with-met_then-requires c =
-    let subject-limit : variables_with c.args.met c.position_of-subject.result ≤ most_variables = passed_limit _ _ c.position_refusal-subject_refusal.ensures c.if-subject_refusal-ne0.false c.requires.1 in
+    let subject-limit : variables_with c.args.met c.position_of-subject.result ≤ most_variables = passed_limit _ _ c.position_refusal-subject_refusal.ensures (omega arith) c.requires.1 in
     subject-limit
 
 pub returns-then-object_refusal-ne0 : goal.returns-then-object_refusal-ne0
@@ -137,12 +138,12 @@ returns-then-object_refusal-ne0 c =
       };
       question = c.position_refusal-object_refusal.ensures;
     } in
-    object_refused _ _ _ _ (subject-asked) c.if-subject_refusal-ne0.false (predicate-read _ c.in-Term.is) (le-leb _ _ c.if-term-gt-MOST_TERM.false) (predicate-placed)
+    object_refused _ _ _ _ (subject-asked) (omega arith) (predicate-read _ c.in-Term.is) (le-leb _ _ (omega arith)) (predicate-placed)
     c.variables_with-met_then.ensures (object-asked) c.if-object_refusal-ne0.true
 
 pub variables_with-requires : goal.variables_with-requires
 variables_with-requires c =
-    let subject-limit : variables_with c.args.met c.position_of-subject.result ≤ most_variables = passed_limit _ _ c.position_refusal-subject_refusal.ensures c.if-subject_refusal-ne0.false c.requires.1 in
+    let subject-limit : variables_with c.args.met c.position_of-subject.result ≤ most_variables = passed_limit _ _ c.position_refusal-subject_refusal.ensures (omega arith) c.requires.1 in
     passed_limit _ _ c.position_refusal-object_refusal.ensures c.if-object_refusal-ne0.false (rw c.variables_with-met_then.ensures (subject-limit))
 
 pub returns : goal.returns
@@ -169,5 +170,5 @@ returns c =
       };
       question = c.position_refusal-object_refusal.ensures;
     } in
-    member_given _ _ _ _ (subject-asked) c.if-subject_refusal-ne0.false (predicate-read _ c.in-Term.is) (le-leb _ _ c.if-term-gt-MOST_TERM.false) (predicate-placed)
+    member_given _ _ _ _ (subject-asked) (omega arith) (predicate-read _ c.in-Term.is) (le-leb _ _ (omega arith)) (predicate-placed)
     c.variables_with-met_then.ensures (object-asked) c.if-object_refusal-ne0.false c.variables_with.ensures

@@ -37,7 +37,7 @@ pub returns-in_default-read_number : goal.returns-in_default-read_number
 returns-in_default-read_number c =
     let refusal : (m : ℕ) → let g = c.args in row c.loop-i.invariant.done (drop c.loop-i.next g.s.now) ≡ refused m → repeated row g.n [] (drop g.at g.s.now) ≡ refused m = λ m e. next_refused c.loop-i.invariant.part (omega arith) e in
     let subject_is : number_at c.args.s.now c.loop-i.next ≡ Value c.in-Value.subject c.in-Value.middle = sym c.read_number.ensures ∙ c.in-Value.is in
-    rw (refusal _ (no_object _ _ _ (subject_is) (le-leb _ _ c.if-subject-gt-MOST_TERM.false)
+    rw (refusal _ (no_object _ _ _ (subject_is) (le-leb _ _ (omega arith))
     (sym c.read_number-in-loop-i.ensures ∙ c.in_default-read_number.is))) refl
 
 pub returns-then-object-gt-MOST_TERM : goal.returns-then-object-gt-MOST_TERM
@@ -45,7 +45,7 @@ returns-then-object-gt-MOST_TERM c =
     let refusal : (m : ℕ) → let g = c.args in row c.loop-i.invariant.done (drop c.loop-i.next g.s.now) ≡ refused m → repeated row g.n [] (drop g.at g.s.now) ≡ refused m = λ m e. next_refused c.loop-i.invariant.part (omega arith) e in
     let subject_is : number_at c.args.s.now c.loop-i.next ≡ Value c.in-Value.subject c.in-Value.middle = sym c.read_number.ensures ∙ c.in-Value.is in
     let object_is : number_at c.args.s.now c.in-Value.middle ≡ Value c.in-Value-read_number.object c.in-Value-read_number.after = sym c.read_number-in-loop-i.ensures ∙ c.in-Value-read_number.is in
-    rw (refusal _ (wide_object _ _ _ (subject_is) (le-leb _ _ c.if-subject-gt-MOST_TERM.false)
+    rw (refusal _ (wide_object _ _ _ (subject_is) (le-leb _ _ (omega arith))
     (object_is) (lt-leb _ _ c.if-object-gt-MOST_TERM.true))) refl
 
 pub returns-then-not-row_before : goal.returns-then-not-row_before
@@ -54,8 +54,8 @@ returns-then-not-row_before c =
     let subject_is : number_at c.args.s.now c.loop-i.next ≡ Value c.in-Value.subject c.in-Value.middle = sym c.read_number.ensures ∙ c.in-Value.is in
     let object_is : number_at c.args.s.now c.in-Value.middle ≡ Value c.in-Value-read_number.object c.in-Value-read_number.after = sym c.read_number-in-loop-i.ensures ∙ c.in-Value-read_number.is in
     let v = c.loop-i.invariant in
-    rw (refusal _ (row_below _ _ _ (subject_is) (le-leb _ _ c.if-subject-gt-MOST_TERM.false)
-    (object_is) (le-leb _ _ c.if-object-gt-MOST_TERM.false) (v.above c.if-i-gt0.true _ ∙ sym c.row_before.ensures ∙ not-true _ c.if-not-row_before.true-raw))) refl
+    rw (refusal _ (row_below _ _ _ (subject_is) (le-leb _ _ (omega arith))
+    (object_is) (le-leb _ _ (omega arith)) (v.above c.if-i-gt0.true _ ∙ sym c.row_before.ensures ∙ not-true _ c.if-not-row_before.true-raw))) refl
 
 pub bounds-image-to-in-loop-i : goal.bounds-image-to-in-loop-i
 bounds-image-to-in-loop-i c = simp length-set (omega arith)
@@ -71,7 +71,7 @@ loop-i-preserved c =
       done = v.done ++ (c.in-Value.subject, c.in-Value-read_number.object) ∷ [];
       count = rw length-append (omega arith);
       part = next_read v.part (omega arith)
-          (row_given _ _ _ (subject_is) (le-leb _ _ c.if-subject-gt-MOST_TERM.false) (object_is) (le-leb _ _ c.if-object-gt-MOST_TERM.false) (row-above));
+          (row_given _ _ _ (subject_is) (le-leb _ _ (omega arith)) (object_is) (le-leb _ _ (omega arith)) (row-above));
       written = rw (← v.count) (row_written {to = _} {rows = v.done} (record { place = refl; words = v.written }) (c.in-Value.subject, c.in-Value-read_number.object)).words;
       size = simp length-set v.size;
       above = λ _ r. above_snoc row_before v.done _ r;

@@ -1,4 +1,5 @@
 -- The count of the predicates, their declarations, and the rest: what the declarations leave in the image is what the rest is read by.
+use native.Mathlib.Omega.{arith}
 use mathlib.Core.Path.{◌≡◌, refl, sym, ◌∙◌}
 use borrow.Author.Tests.{le-leb, lt-leb}
 use borrow.Author.Rules.{rules}
@@ -19,18 +20,18 @@ returns-then-count-gt-MOST_PREDICATES c =
 
 pub read_rest-requires : goal.read_rest-requires
 read_rest-requires c = (
-  c.if-count-gt-MOST_PREDICATES.false,
+  omega arith,
   search rules,
-  declarations_in c.args.s.now c.in-Value.at c.in-Value.p c.args.image.now c.if-count-gt-MOST_PREDICATES.false c.requires c.read_declarations.new.image c.read_declarations.ensures c.in-At.is,
+  declarations_in c.args.s.now c.in-Value.at c.in-Value.p c.args.image.now (omega arith) c.requires c.read_declarations.new.image c.read_declarations.ensures c.in-At.is,
 )
 
 pub returns-in-Refused : goal.returns-in-Refused
 returns-in-Refused c =
     let count-is : number_at c.args.s.now 0 ≡ Value c.in-Value.p c.in-Value.at = sym c.read_number.ensures ∙ c.in-Value.is in
-    rw (declarations_refused _ (count-is) (le-leb _ _ c.if-count-gt-MOST_PREDICATES.false) (was_refused _ _ _ c.read_declarations.ensures c.in-Refused.is)) refl
+    rw (declarations_refused _ (count-is) (le-leb _ _ (omega arith)) (was_refused _ _ _ c.read_declarations.ensures c.in-Refused.is)) refl
 
 pub returns-in-At : goal.returns-in-At
 returns-in-At c =
     let count-is : number_at c.args.s.now 0 ≡ Value c.in-Value.p c.in-Value.at = sym c.read_number.ensures ∙ c.in-Value.is in
-    rw (declarations-behind c.args.s.now c.in-Value.at c.in-Value.p c.args.image.now c.if-count-gt-MOST_PREDICATES.false c.requires c.read_declarations.new.image c.read_declarations.ensures c.in-At.is (count-is))
+    rw (declarations-behind c.args.s.now c.in-Value.at c.in-Value.p c.args.image.now (omega arith) c.requires c.read_declarations.new.image c.read_declarations.ensures c.in-At.is (count-is))
     c.read_rest.ensures
