@@ -1,5 +1,6 @@
 -- A place does not qualify against itself; else the named positions decide.
 use Prim.Native.Nat.{ℕ}
+use native.Mathlib.Omega.{arith}
 use mathlib.Core.Path.{◌≡◌, refl}
 use mathlib.Core.Bool.{false}
 use borrow.Author.Tests.{eq-eqb, ne_eqb}
@@ -16,7 +17,7 @@ returns-then-i-j c = let a = c.args in against_itself a.q _ a.r _ a.k c.if-i-j.t
 
 pub returns : goal.returns
 returns c =
-    rw (ne_eqb _ _ c.if-i-j.false)
+    rw (ne_eqb c.args.i c.args.j (λ e. omega (arith, e)))
     (same_named _ _ _ c.same_variable.ensures
     c.position_at-own.ensures c.own_column.ensures.1
     c.position_at-other.ensures c.partner_column.ensures.1)

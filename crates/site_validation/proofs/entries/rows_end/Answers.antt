@@ -47,7 +47,7 @@ loop-i-preserved c =
       entry-passes words c.args.count i c.loop-i-test.true inv.4 (omega (arith, read.term))
           (⊎_elim (λ x. inr (omega arith, omega (arith, leb-false c.table_entry-table.result.term c.loop-i.last x.if-term-last.false-raw, read.term, inv.6 (omega arith)))) (λ x. inl (omega arith)) c.else-i-gt0.branch-raw)
           (omega (arith, read.rows, inv.2)),
-      stands-more words _ _ (omega arith) inv.5 (sym read.start ∙ c.if-table-here.false ∙ omega (arith, inv.2, inv.3)),
+      stands-more words _ _ (omega arith) inv.5 (omega (arith, read.start, inv.2, inv.3)),
       λ _. rw here read.term,
     )
 
