@@ -1,5 +1,6 @@
 -- Each way out answers as the comparison of the rows does.
 use native.Mathlib.Nat.{le_trans}
+use native.Mathlib.Omega.{arith}
 use mathlib.Core.Path.{sym, ◌∙◌}
 use mathlib.Core.Logic.{⊎_elim}
 use borrow.Author.Tests.{ltb-false, le-ltb}
@@ -16,7 +17,7 @@ compare_partnered-requires c = let pre = c.requires in
 
 pub returns-then-compare_partnered : goal.returns-then-compare_partnered
 returns-then-compare_partnered c = stored_at _ _ _ _ _ _
-    (record { begins = c.if-start-here.false; room = ltb-false _ _ c.if-used-end.false-raw; same = sym c.compare_partnered.ensures ∙ c.if-compare_partnered.true })
+    (record { begins = omega arith; room = ltb-false _ _ c.if-used-end.false-raw; same = sym c.compare_partnered.ensures ∙ c.if-compare_partnered.true })
 
 pub returns : goal.returns
 returns c = stored_wrong _ _ _ _ _ _ (λ x. not_both x.same (sym c.compare_partnered.ensures ∙ c.if-compare_partnered.false))

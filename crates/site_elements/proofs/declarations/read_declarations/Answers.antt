@@ -53,7 +53,7 @@ returns-then-term-last c =
     let term_is : number_at c.args.s.now c.loop-i.next ≡ Value c.in-Value.term c.in-Value.middle = sym c.read_number.ensures ∙ c.in-Value.is in
     let term = c.in-Value.term in
     let above = c.loop-i.invariant.above c.if-i-gt0.true term ∙ le-ltb _ _ (leb-true term c.loop-i.last c.if-term-last.true-raw) in
-    rw (refusal _ (term_below _ _ _ (term_is) (le-leb _ _ c.if-term-gt-MOST_TERM.false) above)) refl
+    rw (refusal _ (term_below _ _ _ (term_is) (le-leb _ _ (omega arith)) above)) refl
 
 pub returns-in_default-read_number : goal.returns-in_default-read_number
 returns-in_default-read_number c =
@@ -64,7 +64,7 @@ returns-in_default-read_number c =
     ⊎_elim (λ w. v.above w.if-i-gt0.true term ∙ lt-ltb _ _ (leb-false term c.loop-i.last w.if-term-last.false-raw))
     (λ w. let none : length v.done ≡ 0 = omega arith in above_none ltb (map (λ d. d.0) v.done) _ (length-map v.done (λ d. d.0) ∙ none))
     c.else-i-gt0.branch-raw in
-    rw (refusal _ (no_count _ _ _ (term_is) (le-leb _ _ c.if-term-gt-MOST_TERM.false) (term-above) (sym c.read_number-in-loop-i.ensures ∙ c.in_default-read_number.is))) refl
+    rw (refusal _ (no_count _ _ _ (term_is) (le-leb _ _ (omega arith)) (term-above) (sym c.read_number-in-loop-i.ensures ∙ c.in_default-read_number.is))) refl
 
 pub returns-then-total-n-gt-MOST_ROWS : goal.returns-then-total-n-gt-MOST_ROWS
 returns-then-total-n-gt-MOST_ROWS c =
@@ -77,7 +77,7 @@ returns-then-total-n-gt-MOST_ROWS c =
     c.else-i-gt0.branch-raw in
     let rows_are : number_at c.args.s.now c.in-Value.middle ≡ Value c.in-Value-read_number.rows c.in-Value-read_number.after = sym c.read_number-in-loop-i.ensures ∙ c.in-Value-read_number.is in
     let v = c.loop-i.invariant in
-    rw (refusal _ (many_rows _ _ _ (term_is) (le-leb _ _ c.if-term-gt-MOST_TERM.false) (term-above) (rows_are) (rw (← v.rows) (lt-leb _ _ c.if-total-n-gt-MOST_ROWS.true)))) refl
+    rw (refusal _ (many_rows _ _ _ (term_is) (le-leb _ _ (omega arith)) (term-above) (rows_are) (rw (← v.rows) (lt-leb _ _ c.if-total-n-gt-MOST_ROWS.true)))) refl
 
 pub put_table_entry-requires : goal.put_table_entry-requires
 put_table_entry-requires c = (omega arith, omega arith)
@@ -95,7 +95,7 @@ loop-i-preserved c =
     record {
       done = v.done ++ (c.in-Value.term, c.in-Value-read_number.rows) ∷ [];
       many = rw length-append (omega arith);
-      part = next_read v.part (omega arith) (declaration_given _ _ _ (term_is) (le-leb _ _ c.if-term-gt-MOST_TERM.false) (term-above) (rows_are) (rw (← v.rows) (le-leb _ _ c.if-total-n-gt-MOST_ROWS.false)));
+      part = next_read v.part (omega arith) (declaration_given _ _ _ (term_is) (le-leb _ _ (omega arith)) (term-above) (rows_are) (rw (← v.rows) (le-leb _ _ (omega arith))));
       written = c.put_table_entry.ensures ∙ declaration-written _ _ _ v.done _ v.many (rw (← v.rows) v.start) v.written;
       size = rw c.put_table_entry.ensures (simp length-sets v.size);
       rows = rw sum_snoc (omega arith);
