@@ -11,6 +11,6 @@ pub outcome_reported : (lent : List ℕ) {answer : Answer} {memory values : List
 outcome_reported lent made told = rw (told.0, told.1) (ap (λ (o : Outcome). seen_of o lent) made)
 
 pub plan_reported : (made : Planned) (lent lentSteps : List ℕ) {steps values : List ℕ} {n : ℕ}
-    → n ≡ number_of made.answer → values ≡ values_of made.answer made.plan.count lent → steps ≡ plan_bytes_of made lentSteps
+    → (n ≡ number_of made.answer) × (values ≡ values_of made.answer made.plan.count lent) → steps ≡ plan_bytes_of made lentSteps
     → seen n steps values ≡ seen_of_plan made lentSteps lent
-plan_reported made lent lentSteps numbered told given = rw (numbered, told, given) refl
+plan_reported made lent lentSteps told given = rw (told.0, told.1, given) refl

@@ -20,9 +20,9 @@ module _ (made : Planned) (lent : List ℕ) where
 pub returns-then-number-eq0 : goal.returns-then-number-eq0
 returns-then-number-eq0 c =
     let told = c.report-number.ensures in
-    rw (← c.plan-made.ensures) (plan_reported _ _ _ told.value told.values_after (steps_given _ _ (sym told.value ∙ c.if-number-eq0.true)))
+    rw (← c.plan-made.ensures) (plan_reported _ _ _ (told.value, told.values_after) (steps_given _ _ (sym told.value ∙ c.if-number-eq0.true)))
 
 pub returns-else-number-eq0 : goal.returns-else-number-eq0
 returns-else-number-eq0 c =
     let told = c.report-number.ensures in
-    rw (← c.plan-made.ensures) (plan_reported _ _ _ told.value told.values_after (steps-kept _ _ (λ e. c.if-number-eq0.false (told.value ∙ e))))
+    rw (← c.plan-made.ensures) (plan_reported _ _ _ (told.value, told.values_after) (steps-kept _ _ (λ e. c.if-number-eq0.false (told.value ∙ e))))
