@@ -41,14 +41,14 @@ extern "C" {
 #endif
 
 /* Raised when the inputs of a call, their limits or the numbers of an answer change. Since 2 there is closing_whether. Since 3 a term is at
- * most 16,777,215 and a number has up to 4 bytes; files that were accepted before mean what they meant (a law: Files-Mean-What-They-Meant
+ * most 16,777,215 and a number has up to 4 bytes; files that were accepted before mean what they meant (a law: FilesMeanWhatTheyMeant
  * in crates/model/proofs/Demands/Kept.antt). Since 4 there is a fourth kind of reduced table, OO: a store lists four kinds for each pair of
- * predicates, and a choice is 1 + 4j + k. A store that was kept from before is refused with 10 (a law: Three-Kinds-Refused in
+ * predicates, and a choice is 1 + 4j + k. A store that was kept from before is refused with 10 (a law: ThreeKindsRefused in
  * crates/model/proofs/Demands/SharedObjects.antt), so build it anew from its site's file; a plan that was kept must be made anew, by
  * closing_plan. */
 #define CLOSING_VERSION 4
 
-/* A store of this many words holds every site at every threshold: with it closing_build never returns 9 (a law: Store-Words-Suffice
+/* A store of this many words holds every site at every threshold: with it closing_build never returns 9 (a law: StoreWordsSuffice
  * in crates/model/proofs/Demands/Store.antt). Most sites need far fewer; 01's shop needs 102. */
 #define CLOSING_STORE_WORDS 135219
 
