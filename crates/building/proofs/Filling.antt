@@ -16,7 +16,10 @@ use Rattle.model.proofs.StoreLayout.{length-table, entry_block, semi_join_entry,
 use Rattle.tables.specs.SiteWords.{site_in, ImageOf, no_reduced, reduced_at, CountsIn}
 use Rattle.tables.proofs.Reduced.{length_entries_of, entries-more, stored_words-more, take_more, length_all_of}
 use Rattle.model.proofs.Setting.{sets-append, get_or-sets, sets_block}
-use Rattle.tables.proofs.Images.{image_unchanged, few_predicates, few_semi_joins, entries_inside}
+use Rattle.tables.specs.SemiJoins.{SemiJoinOf, left_of}
+use Rattle.tables.specs.declared.semi_joins.SemiJoin.{SemiJoin}
+use Rattle.tables.proofs.Entries.{Counted, counted_of}
+use Rattle.tables.proofs.Images.{image_unchanged, few_predicates, few_semi_joins, stored_start_limit, entries_inside}
 
 -- ---- one semi-join more
 
@@ -85,6 +88,24 @@ module _ {count : ℕ} {image₀ : List ℕ} (o : ImageOf count image₀) where
         let m = length-take-le x all (rw (length_all_of o) h) in
         rw f.written (image_unchanged o (vp_entry_at count) es (inr (omega arith)) (omega arith))
 
+    -- the next semi-join, as the code reads it in the image
+    module _ (h : x < count * (count * kind_count)) {r : SemiJoin} (known : SemiJoinOf (site_in count image) image x r) where
+      -- what it leaves is counted of the site as it was
+      pub next_counted : {n : ℕ} → n ≡ length (left_of image r) → Counted (site_in count image₀) x n r.own.rows
+      next_counted e =
+          let same = filled_image (omega arith) in
+          rw same.1 at (counted_of same.0 x h (rw known.left at e) known.full)
+
+      pub next_entry : r.entry ≡ vp_entry_at count + 2 * x
+      next_entry = known.entry_place ∙ ap (λ (n : ℕ). vp_entry_at n + 2 * x) (filled_image (omega arith)).0.predicates
+
+      pub next_inside : r.entry + 2 ≤ length image
+      next_inside = omega (arith, next_entry, entries_inside o, filled-length f, h)
+
+      -- its rows end at a small number
+      pub next_small : first ≡ stored_start (site_in count image₀) → here + 2 * most_rows < 4294967296
+      next_small e = omega (arith, e, f.near, h, few_semi_joins (few_predicates o), stored_start_limit (site_in count image₀) o.proper)
+
     module _ (h : x ≡ count * (count * kind_count)) where
       whole : take x all ≡ all
       whole = take_all x all (rw (length_all_of o, h) (le_refl _))
@@ -129,6 +150,17 @@ module _ {count : ℕ} {image₀ : List ℕ} (o : ImageOf count image₀) where
     }
 
 -- ---- the rows in the store
+
+-- the entry of a semi-join has counted the rows that it leaves
+pub counted_in : {count : ℕ} {image : List ℕ} → ImageOf count image → CountsIn count image → {x n : ℕ} {r : SemiJoin} → x < count * (count * kind_count)
+    → SemiJoinOf (site_in count image) image x r → n ≡ get_or image r.entry 0 → Counted (site_in count image) x n r.own.rows
+counted_in {image = image} o counts {x = x} h known read =
+    let place = known.entry_place ∙ ap (λ (n : ℕ). vp_entry_at n + 2 * x) o.predicates in
+    counted_of o x h (read ∙ ap (λ (i : ℕ). get_or image i 0) place ∙ counts.counts x h) known.full
+
+-- it is one of the site
+pub join_inside : {count : ℕ} {image : List ℕ} → ImageOf count image → {x : ℕ} → x < count * (count * kind_count) → x < length (semi_joins (site_in count image))
+join_inside o h = rw (length_all_of o) h
 
 -- the rows of the stored tables of x semi-joins are written, from `first` up to `next`
 pub record Stored (t first : ℕ) (xs : List Reduced) (store₀ store : List ℕ) (next x : ℕ) : Type 0 where

@@ -2,10 +2,10 @@
 use Prim.Native.Nat.{ℕ, suc, ◌+◌, ◌-◌, ◌*◌, ◌^◌, ◌≤◌, ◌<◌}
 use native.Mathlib.Nat.{zero-add}
 use native.Mathlib.Omega.{arith}
-use mathlib.Core.Path.{◌≡◌, sym, ap, ◌∙◌, subst}
+use mathlib.Core.Path.{◌≡◌, refl, sym, ap, ◌∙◌, subst}
 use mathlib.Core.List.{List, [], ◌∷◌, ◌++◌}
-use lib.ListN.{length, get_or, take, length-append}
-use lib.Seq.{sets, length-sets}
+use lib.ListN.{length, get_or, take, drop, length-append}
+use lib.Seq.{sets, length-sets, length-take-le}
 use Rattle.model.specs.SiteFile.{declarations}
 use Rattle.model.specs.Site.{Table, Site, row_total}
 use Rattle.model.specs.Tables.{kind_count}
@@ -121,7 +121,27 @@ module _ (t : ℕ) {count : ℕ} {image : List ℕ} (o : ImageOf count image) wh
     words = fronted-words;
   }
 
+-- the same of the words that the code has
+pub front_filled : {t count first used : ℕ} {image after : List ℕ} → ImageOf count image → first ≡ stored_start (site_in count image) → used ≡ length (layout t (site_in count image))
+    → after ≡ sets image (vp_entry_at count) (semi_join_entries t first (semi_joins (site_in count image)))
+    → FrontIn t count (site_in count image) (sets after 0 (count ∷ t ∷ used ∷ []))
+front_filled {t} o starts uses fills = rw (fills, uses, starts) (front_in t o)
+
 -- ---- the store
+
+-- it has room for the front
+pub front_fits : (t : ℕ) (site : Site) (memory : List ℕ) {first used : ℕ} → first ≡ stored_start site → used ≡ length (layout t site) → used ≤ length memory → first ≤ length memory
+front_fits t site memory starts uses h = omega (arith, starts, uses, h, length-layout t site)
+
+module _ {t count first : ℕ} {site : Site} {image : List ℕ} (front-in : FrontIn t count site image) (starts : first ≡ stored_start site) where
+  pub length_front : length (take first image) ≡ first
+  length_front =
+      let inside : stored_start site ≤ length image = rw (← front-in.same) front-in.image_of.long in
+      length-take-le first image (rw starts inside)
+
+  -- the words of the front, over those of the store
+  pub front_copied : (memory : List ℕ) → first ≤ length memory → take first image ++ drop first memory ≡ sets memory 0 (take first image)
+  front_copied memory room = sym (sets_over (take first image) memory (omega (arith, length_front)) ∙ rw length_front refl)
 
 -- the front, and the stored tables' rows behind it
 pub store-over : (t : ℕ) (site : Site) (memory : List ℕ) → length (layout t site) ≤ length memory

@@ -3,17 +3,15 @@ ghost use Rattle.std.proofs.lemmas.List.Edits.{sets};
 ghost use Rattle.model.specs.Tables.{most_threshold};
 ghost use Rattle.model.specs.Store.{semi_joins, semi_join_entries, stored_start, stored_words, layout, vp_entry_at};
 ghost use Rattle.model.specs.Calls.{outcome, filled};
+ghost use Rattle.model.specs.Results.{build_answer};
 ghost use Rattle.tables.specs.SiteWords.{site_in, ImageOf, CountsIn};
 
-use model::answer::Answer;
+use model::refusal::Refusal;
 use reducing::semi_join_count::count_semi_join;
 use reducing::semi_join_write::write_semi_join;
-use tables::copying::copy_words;
 use tables::kinds::{KINDS, is_stored};
-use tables::layout::{
-    nth_semi_join_entry_at, put_semi_join_entry, rows_start, semi_join_entry, table_entry,
-};
-use tables::operands::operands_at;
+use tables::layout::{put_semi_join_entry, rows_start, semi_join_entry, table_entry};
+use tables::semi_joins::SemiJoin;
 
 // Where the stored tables' rows begin.
 fn stored_start(image: &[u32], count: usize) -> usize
@@ -35,15 +33,14 @@ fn fill_entries(t: usize, count: usize, image: &mut [u32], first: usize) -> usiz
 {
     let mut here = first;
     for x in 0..count * (count * KINDS) {
-        let o = operands_at(image, count, x);
-        let rows = o.rows;
-        let left = count_semi_join(image, o);
-        let entry = nth_semi_join_entry_at(count, x);
+        let join = SemiJoin::nth(image, count, x);
+        let rows = join.own.rows;
+        let left = count_semi_join(image, join);
         if is_stored(t, left, rows) {
-            put_semi_join_entry(image, entry, left as u32, here as u32);
+            put_semi_join_entry(image, join.entry, left as u32, here as u32);
             here += 2 * left;
         } else {
-            put_semi_join_entry(image, entry, left as u32, 0);
+            put_semi_join_entry(image, join.entry, left as u32, 0);
         }
     }
     here
@@ -57,29 +54,34 @@ fn write_stored(t: usize, count: usize, image: &[u32], store: &mut [u32], first:
 {
     let mut next = first;
     for x in 0..count * (count * KINDS) {
-        let o = operands_at(image, count, x);
-        let entry = semi_join_entry(image, nth_semi_join_entry_at(count, x));
-        if is_stored(t, entry.rows, o.rows) {
-            next = write_semi_join(image, o, store, next);
+        let join = SemiJoin::nth(image, count, x);
+        let left = semi_join_entry(image, join.entry).rows;
+        if is_stored(t, left, join.own.rows) {
+            next = write_semi_join(image, join, store, next);
         }
     }
 }
 
-// Question 9, and then the words: nothing is written before the count of words used is known.
-pub fn fill_store(t: u32, count: usize, image: &mut [u32], store: &mut [u32]) -> Answer
+// Question 9, and then the words: nothing is written before the count of words used, which it gives, is known.
+pub fn fill_store(
+    t: u32,
+    count: usize,
+    image: &mut [u32],
+    store: &mut [u32],
+) -> Result<u32, Refusal>
     requires { ImageOf count image.old × (t ≤ most_threshold) }
-    ensures { outcome result store.new ≡ filled t (site_in count image.old) store.old }
+    ensures { outcome (build_answer result) store.new ≡ filled t (site_in count image.old) store.old }
 {
     let threshold = t as usize;
     let first = stored_start(image, count);
     let used = fill_entries(threshold, count, image, first);
     if store.len() < used {
-        return Answer::Refused(9);
+        return Err(Refusal::StoreTooSmall);
     }
     image[0] = count as u32;
     image[1] = t;
     image[2] = used as u32;
-    copy_words(image, 0, first, store);
+    store[..first].copy_from_slice(&image[..first]);
     write_stored(threshold, count, image, store, first);
-    Answer::Built(used as u32)
+    Ok(used as u32)
 }

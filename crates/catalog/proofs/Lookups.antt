@@ -1,13 +1,11 @@
 -- Look-ups in validated words: what is read at each place, and where a predicate is declared.
-use Prim.Native.Nat.{ℕ, suc, ◌+◌, ◌*◌, ◌≤◌, ◌<◌}
+use Prim.Native.Nat.{ℕ, zero, suc, ◌+◌, ◌*◌, ◌≤◌, ◌<◌}
 use native.Mathlib.Nat.{mul-le-mul_right}
-use native.Mathlib.Numerals.{add-one}
 use native.Mathlib.Omega.{arith}
-use mathlib.Core.Path.{◌≡◌, refl, ap, ◌∙◌}
+use mathlib.Core.Path.{◌≡◌, refl, sym, ap, ◌∙◌}
 use mathlib.Core.Bool.{Bool, true, false, cond}
 use mathlib.Core.List.{List, [], ◌∷◌}
 use lib.ListN.{length, get_or, take, drop, length-take, length-drop, get_or-append}
-use lib.Seq.{drop-cons, drop-length}
 use lib.Dec.{eqb, ltb}
 use borrow.Author.Tests.{ltb-true, eqb-true, eq-eqb, ne_eqb}
 use Rattle.model.specs.Site.{Row, Site, is_site, is_declared, no_table, table_at, most_predicates}
@@ -20,45 +18,45 @@ use Rattle.model.proofs.Blocks.{Block, block_inside, element_block, longer_block
 use Rattle.model.proofs.StoreLayout.{length-table, entry_and_rows, vp_entry, vp-entries, left_at, length-layout, vp_entries_block, vp_words_block, vp-entry, semi_join-entry}
 use Rattle.model.proofs.Stores.{rows_back}
 use Rattle.model.proofs.Setting.{part_block}
-use Rattle.catalog.specs.declared.lookup.Found.TheVariants.{At, Absent}
-use Rattle.catalog.specs.Lookups.{Validated, place_from, place_of, RowsAt}
+use Rattle.std.specs.Prelude.{Option, Some, None, MatchOption}
+use Rattle.std.specs.List.{position_from}
+use Rattle.catalog.specs.Lookups.{Validated, place_of, RowsAt}
 use Rattle.model.proofs.Decoder.{site_of, threshold_of, store_holds, store_whole, store-predicates, store_used, store_inside}
 
 -- ---- where a predicate is declared
 
--- the table at place i, and those behind it
-place_step : (site : Site) (p i : ℕ) → i < length site
-    → place_from i (drop i site) p ≡ cond (eqb (table_at site i).predicate p) (At i) (place_from (suc i) (drop (suc i) site) p)
-unfolding place_from
-place_step site p i h = rw (drop-cons site i no_table h) refl
+-- the places of a site begin at k
+abbrev place_from : ℕ → Site → ℕ → Option ℕ
+place_from k site p = position_from (λ t. eqb t.predicate p) k site
 
-pub place_here : (site : Site) (p i : ℕ) → i < length site → (table_at site i).predicate ≡ p → place_from i (drop i site) p ≡ At i
-place_here site p i h e = place_step site p i h ∙ rw (eq-eqb _ _ e) refl
+-- the first table of a predicate stands at its place
+first_from : (k : ℕ) (site : Site) (p i : ℕ) → i < length site → (table_at site i).predicate ≡ p
+    → ((j : ℕ) → j < i → (table_at site j).predicate ≡ p → ⊥) → place_from k site p ≡ Some (k + i)
+first_from k [] p i h e n = absurd (omega arith)
+first_from k (t ∷ ts) p zero h e n = rw (eq-eqb _ _ e) (ap Some (omega arith))
+first_from k (t ∷ ts) p (suc i) h e n =
+    rw (ne_eqb _ _ (n 0 (omega arith)))
+    (first_from (k + 1) ts p i (omega arith) e (λ j g. n (suc j) (omega arith)) ∙ ap Some (omega arith))
 
-pub place_later : (site : Site) (p i : ℕ) → i < length site → ((table_at site i).predicate ≡ p → ⊥)
-    → place_from i (drop i site) p ≡ place_from (i + 1) (drop (i + 1) site) p
-place_later site p i h n = rw (place_step site p i h, ne_eqb _ _ n, add-one) refl
-
-pub place_nowhere : (site : Site) (p i : ℕ) → i ≡ length site → place_from i (drop i site) p ≡ Absent
-unfolding place_from
-place_nowhere site p i e = rw (e, drop-length site) refl
+none_from : (k : ℕ) (site : Site) (p : ℕ) → ((j : ℕ) → j < length site → (table_at site j).predicate ≡ p → ⊥) → place_from k site p ≡ None
+none_from k [] p n = refl
+none_from k (t ∷ ts) p n = rw (ne_eqb _ _ (n 0 (omega arith))) (none_from (k + 1) ts p (λ j g. n (suc j) (omega arith)))
 
 -- place i, where the places begin at k, is that of p
 abbrev IsPlace : ℕ → Site → ℕ → ℕ → Type 0
 IsPlace k site p i = (d : ℕ) × (i ≡ k + d) × (d < length site) × ((table_at site d).predicate ≡ p)
 
-found_from : (k : ℕ) (site : Site) (p i : ℕ) → place_from k site p ≡ At i → IsPlace k site p i
-unfolding place_from
-found_from k [] p i e = let z : ◌≡◌ {A = ℕ} 0 1 = cc in absurd (omega arith)
-found_from k (t ∷ ts) p i e = go (eqb t.predicate p) refl e (λ h. found_from (suc k) ts p i h)
+found_from : (k : ℕ) (site : Site) (p i : ℕ) → place_from k site p ≡ Some i → IsPlace k site p i
+found_from k [] p i e = cc
+found_from k (t ∷ ts) p i e = go (eqb t.predicate p) refl e (λ h. found_from (k + 1) ts p i h)
   where
-    go : (b : Bool) → eqb t.predicate p ≡ b → cond b (At k) (place_from (suc k) ts p) ≡ At i
-        → (place_from (suc k) ts p ≡ At i → IsPlace (suc k) ts p i) → IsPlace k (t ∷ ts) p i
+    go : (b : Bool) → eqb t.predicate p ≡ b → cond b (Some k) (place_from (k + 1) ts p) ≡ Some i
+        → (place_from (k + 1) ts p ≡ Some i → IsPlace (k + 1) ts p i) → IsPlace k (t ∷ ts) p i
     go true b e later = let same : k ≡ i = cc in (0, omega arith, omega arith, eqb-true _ _ b)
     go false b e later = let x = later e in (suc x.0, omega arith, omega arith, x.3)
 
 -- a place that is found is that of the predicate
-pub place_found : (site : Site) (p i : ℕ) → place_of site p ≡ At i → (i < length site) × ((table_at site i).predicate ≡ p) × (is_declared site p ≡ true)
+pub place_found : (site : Site) (p i : ℕ) → place_of site p ≡ Some i → (i < length site) × ((table_at site i).predicate ≡ p) × (is_declared site p ≡ true)
 place_found site p i e =
     let x = found_from 0 site p i e in
     let same : x.0 ≡ i = omega arith in
@@ -66,17 +64,16 @@ place_found site p i e =
     let here : (table_at site i).predicate ≡ p = rw same at x.3 in
     (below, here, into_any (λ t. eqb t.predicate p) (at_place site no_table i below) (eq-eqb _ _ here))
 
-absent_from : (k : ℕ) (site : Site) (p : ℕ) → place_from k site p ≡ Absent → is_declared site p ≡ false
-unfolding place_from
+absent_from : (k : ℕ) (site : Site) (p : ℕ) → place_from k site p ≡ None → is_declared site p ≡ false
 absent_from k [] p e = refl
-absent_from k (t ∷ ts) p e = go (eqb t.predicate p) refl e (λ h. absent_from (suc k) ts p h)
+absent_from k (t ∷ ts) p e = go (eqb t.predicate p) refl e (λ h. absent_from (k + 1) ts p h)
   where
-    go : (b : Bool) → eqb t.predicate p ≡ b → cond b (At k) (place_from (suc k) ts p) ≡ Absent
-        → (place_from (suc k) ts p ≡ Absent → is_declared ts p ≡ false) → is_declared (t ∷ ts) p ≡ false
-    go true b e later = let z : ◌≡◌ {A = ℕ} 0 1 = cc in absurd (omega arith)
+    go : (b : Bool) → eqb t.predicate p ≡ b → cond b (Some k) (place_from (k + 1) ts p) ≡ None
+        → (place_from (k + 1) ts p ≡ None → is_declared ts p ≡ false) → is_declared (t ∷ ts) p ≡ false
+    go true b e later = cc
     go false b e later = rw b (later e)
 
-pub place_absent : (site : Site) (p : ℕ) → place_of site p ≡ Absent → is_declared site p ≡ false
+pub place_absent : (site : Site) (p : ℕ) → place_of site p ≡ None → is_declared site p ≡ false
 place_absent site p e = absent_from 0 site p e
 
 -- ---- a store that is validated
@@ -181,3 +178,14 @@ module _ (w : List ℕ) (validated : Validated w) where
           let before = taken_inside words start (2 * length left) some_words (ap length laid ∙ length-table left) in
           let here : get_or w place 0 ≡ start = word place (omega (arith, join_before_rows (length (site_of w)) i j k hi hj hk)) in
           rw (predicate_count, here) (rows_at_lem left (part_block words start (2 * length left) before laid))
+
+  -- a search for the entry of a term gives the place of the predicate
+  pub place_searched : (term : ℕ) (r : Option ℕ)
+      → MatchOption r ((j : ℕ) → 0 ≤ j → j < get_or w 0 0 → get_or w (vp_entry_at j) 0 ≡ term → ⊥)
+      (λ i. (0 ≤ i) × (i < get_or w 0 0) × (get_or w (vp_entry_at i) 0 ≡ term) × ((j : ℕ) → 0 ≤ j → j < i → get_or w (vp_entry_at j) 0 ≡ term → ⊥))
+      → r ≡ place_of (site_of w) term
+  place_searched term None h = sym (none_from 0 (site_of w) term (λ j g e. h j (omega arith) (omega (arith, predicate_count)) (entry_term j g ∙ e)))
+  place_searched term (Some i) h =
+      let declared : i < length (site_of w) = omega (arith, predicate_count) in
+      let here : (table_at (site_of w) i).predicate ≡ term = sym (entry_term i declared) ∙ h.2 in
+      sym (first_from 0 (site_of w) term i declared here (λ j g e. h.3 j (omega arith) g (entry_term j (omega arith) ∙ e)) ∙ ap Some (omega arith))

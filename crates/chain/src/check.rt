@@ -11,18 +11,11 @@ const THRESHOLD: u32 = 1000;
 
 const STORE_WORDS: usize = 8192;
 
+#[tactic(auto, unfolding(model::specs::Chain::is_refused))]
 fn is_refused(answer: Answer) -> bool
     ensures { result ≡ is_refused answer }
 {
-    match answer {
-        Answer::Rows(_, _) => false,
-        Answer::None => false,
-        Answer::Built(_) => false,
-        Answer::Plan => false,
-        Answer::Yes => false,
-        Answer::No => false,
-        Answer::Refused(_) => true,
-    }
+    matches!(answer, Answer::Refused(_))
 }
 
 // Over a store: plans a check, and runs that plan, whose numbers are its bytes.

@@ -1,5 +1,5 @@
 -- The tables that may be chosen for a place, as the code finds them, and the best of them one by one.
-use Prim.Native.Nat.{ℕ, suc, ◌+◌, ◌*◌, ◌%◌, ◌≤◌, ◌<◌}
+use Prim.Native.Nat.{ℕ, suc, ◌+◌, ◌*◌, ◌≤◌, ◌<◌}
 use native.Mathlib.Numerals.{add-one, one-add}
 use native.Mathlib.Omega.{arith}
 use mathlib.Core.Path.{◌≡◌, refl, sym, ap, ◌∙◌}
@@ -10,7 +10,7 @@ use lib.Dec.{ltb}
 use borrow.Author.Tests.{lt-ltb, le-ltb}
 use Rattle.model.specs.Lists.{filter, below}
 use Rattle.model.specs.Site.{Site, is_site, most_rows, no_table, table_at}
-use Rattle.model.specs.Tables.{Column, Kind, semi_join, kind_at, kind_count, is_stored}
+use Rattle.model.specs.Tables.{Column, Kind, semi_join, kind_count, is_stored}
 use Rattle.model.specs.Store.{Store}
 use Rattle.model.specs.Pattern.{Pattern, position_at, same_variable, predicate_table, full_table}
 use Rattle.model.specs.Plan.{partner, kind_of, qualifies, reduced_table, chosen_table, may_choose}
@@ -29,8 +29,8 @@ use Rattle.positions.specs.declared.pattern.Member.{Member}
 use Rattle.positions.specs.declared.pattern.Pattern.{Pattern as Members}
 use Rattle.positions.proofs.MemberLaws.{pattern-length, triple_member}
 use Rattle.choosing.specs.Choices.{qualifies_by, chooseable_table}
-use Rattle.choosing.specs.declared.choosing.Chooseable.{Chooseable}
-use Rattle.choosing.specs.declared.choosing.Chooseable.TheVariants.{Rows, Nothing}
+use Rattle.std.specs.Prelude.{Option, Some, None, is_some}
+use Rattle.std.specs.Bool.{then_some}
 
 -- ---- the tables of a proper site
 
@@ -50,44 +50,62 @@ module _ (site : Site) (yes-site : is_site site ≡ true) where
 
 -- ---- one table
 
+-- a value if a test passes, as the code's method gives it
+pub some_if : (b : Bool) (n : ℕ) → then_some b n ≡ cond b (Some n) None
+some_if true n = refl
+some_if false n = refl
+
 -- the positions that a kind names, read by the numbers of its columns
 pub same_named : {r : Bool} {x y : Position} {own other : Column} (k : Kind) (q s : TriplePattern) → r ≡ same_variable x y
     → x ≡ position_at own q → own ≡ k.0 → y ≡ position_at other s → other ≡ k.1 → r ≡ same_variable (position_at k.0 q) (position_at k.1 s)
 same_named k q s e p u p' u' = e ∙ rw (p, u, p', u') refl
 
 -- by its tests, and by what is read of the store: the threshold, the rows left and the rows of the full table
-pub open_by : {store : Store} {a b : Member} (i j k : ℕ) {t n m : ℕ} {named stored : Bool}
+pub open_by : {store : Store} {a b : Member} (i j : ℕ) (kind : Kind) {t n m : ℕ} {named stored : Bool}
     → is_site store.site ≡ true → TableOf store.site a → TableOf store.site b
-    → t ≡ store.threshold → n ≡ length (semi_join (kind_at k) (table_at store.site a.table).rows (table_at store.site b.table).rows)
+    → t ≡ store.threshold → n ≡ length (semi_join kind (table_at store.site a.table).rows (table_at store.site b.table).rows)
     → m ≡ length (table_at store.site a.table).rows
-    → qualifies_by a.triple i b.triple j k ≡ named → is_stored t n m ≡ stored
-    → chooseable_table store a i b j k ≡ cond (named && stored) (Rows n) Nothing
+    → qualifies_by a.triple i b.triple j kind ≡ named → is_stored t n m ≡ stored
+    → chooseable_table store a i b j kind ≡ cond (named && stored) (Some n) None
 unfolding chooseable_table
-open_by {store} i j k yes-site own other et en em es ek =
+open_by {store} i j kind yes-site own other et en em es ek =
     rw (member_table store.site yes-site own, member_table store.site yes-site other, ← et, ← en, ← em, es, ek) refl
 
 -- the table that a choice names, given without its 1
-abbrev pub chooseable_at : Store → Members → ℕ → ℕ → Chooseable
-chooseable_at store pattern i c = chooseable_table store (member_at pattern i) i (member_at pattern (partner c)) (partner c) (c % kind_count)
+abbrev pub chooseable_at : Store → Members → ℕ → ℕ → Option ℕ
+chooseable_at store pattern i c = chooseable_table store (member_at pattern i) i (member_at pattern (partner c)) (partner c) (kind_of c)
+
+-- so by the place and the kind that it names
+pub named_by : (store : Store) (pattern : Members) (i c : ℕ) {j : ℕ} {kind : Kind} {found : Option ℕ} → j ≡ partner c → kind ≡ kind_of c
+    → found ≡ chooseable_table store (member_at pattern i) i (member_at pattern j) j kind → found ≡ chooseable_at store pattern i c
+named_by store pattern i c place same f = f ∙ rw (place, same) refl
 
 module _ (store : Store) {pattern : Members} (i c : ℕ) (cells : PatternCells pattern) (h : i < pattern.count) (l : partner c < pattern.count) where
-  open_choice : chooseable_at store pattern i c ≡ cond (may_choose store (pattern_in pattern) i (suc c)) (Rows (table_rows store (pattern_in pattern) i (suc c))) Nothing
+  open_choice : chooseable_at store pattern i c ≡ cond (may_choose store (pattern_in pattern) i (suc c)) (Some (table_rows store (pattern_in pattern) i (suc c))) None
   unfolding chooseable_table may_choose qualifies table_rows chosen_table reduced_table full_table
   open_choice =
       rw (triple_member pattern i h, triple_member pattern (partner c) l, pattern-length cells, lt-ltb i _ h, lt-ltb (partner c) _ l) refl
 
-  pub choice_open : {found : Chooseable} {r : ℕ} → found ≡ chooseable_at store pattern i c → found ≡ Rows r
+  pub choice_open : {found : Option ℕ} {r : ℕ} → found ≡ chooseable_at store pattern i c → found ≡ Some r
       → (may_choose store (pattern_in pattern) i (suc c) ≡ true) × (r ≡ table_rows store (pattern_in pattern) i (suc c))
   choice_open {r} f e = go (may_choose store (pattern_in pattern) i (suc c)) (table_rows store (pattern_in pattern) i (suc c)) (sym open_choice ∙ sym f ∙ e)
     where
-      go : (b : Bool) (n : ℕ) → cond b (Rows n) Nothing ≡ Rows r → (b ≡ true) × (r ≡ n)
+      go : (b : Bool) (n : ℕ) → cond b (Some n) None ≡ Some r → (b ≡ true) × (r ≡ n)
       go true n e = (refl, cc)
       go false n e = (cc, cc)
 
-  pub choice_closed : {found : Chooseable} → found ≡ chooseable_at store pattern i c → found ≡ Nothing → may_choose store (pattern_in pattern) i (suc c) ≡ false
+  -- whether the code finds it
+  pub choice_found : {found : Option ℕ} → found ≡ chooseable_at store pattern i c → is_some found ≡ may_choose store (pattern_in pattern) i (suc c)
+  choice_found f = ap is_some (f ∙ open_choice) ∙ go (may_choose store (pattern_in pattern) i (suc c)) (table_rows store (pattern_in pattern) i (suc c))
+    where
+      go : (b : Bool) (n : ℕ) → is_some (cond b (Some n) None) ≡ b
+      go true n = refl
+      go false n = refl
+
+  pub choice_closed : {found : Option ℕ} → found ≡ chooseable_at store pattern i c → found ≡ None → may_choose store (pattern_in pattern) i (suc c) ≡ false
   choice_closed f e = go (may_choose store (pattern_in pattern) i (suc c)) (table_rows store (pattern_in pattern) i (suc c)) (sym open_choice ∙ sym f ∙ e)
     where
-      go : (b : Bool) (n : ℕ) → cond b (Rows n) Nothing ≡ Nothing → b ≡ false
+      go : (b : Bool) (n : ℕ) → cond b (Some n) None ≡ None → b ≡ false
       go true n e = cc
       go false n e = refl
 
@@ -153,21 +171,21 @@ module _ (store : Store) (pattern : Pattern) (i : ℕ) where
       go false = ap (best fewer 0) (append-nil (filter may (below (suc c)))) ∙ sym v.chosen
 
 -- the answer for the next choice, and what the code makes of it
-module _ {store : Store} {pattern : Members} {i c number rows number' rows' : ℕ} {found : Chooseable} (cells : PatternCells pattern) (h : i < pattern.count)
+module _ {store : Store} {pattern : Members} {i c number rows number' rows' : ℕ} {found : Option ℕ} (cells : PatternCells pattern) (h : i < pattern.count)
     (v : BestTo store (pattern_in pattern) i c number rows) (l : c < pattern.count * kind_count) (f : found ≡ chooseable_at store pattern i c) where
-  pub best_better : {r : ℕ} → found ≡ Rows r → r < rows → number' ≡ 1 + c → rows' ≡ r → BestTo store (pattern_in pattern) i (c + 1) number' rows'
+  pub best_better : {r : ℕ} → found ≡ Some r → r < rows → number' ≡ 1 + c → rows' ≡ r → BestTo store (pattern_in pattern) i (c + 1) number' rows'
   best_better e k p q =
       let (allowed, same) = choice_open store i c cells h (omega arith) f e in
       let fewer = lt-ltb (table_rows store (pattern_in pattern) i (suc c)) rows (omega arith) in
       rw (add-one c, p ∙ one-add c, q) (record { chosen = best-next store (pattern_in pattern) i true true v allowed fewer; counted = same })
 
-  pub best_kept : {r : ℕ} → found ≡ Rows r → rows ≤ r → number' ≡ number → rows' ≡ rows → BestTo store (pattern_in pattern) i (c + 1) number' rows'
+  pub best_kept : {r : ℕ} → found ≡ Some r → rows ≤ r → number' ≡ number → rows' ≡ rows → BestTo store (pattern_in pattern) i (c + 1) number' rows'
   best_kept e k p q =
       let (allowed, same) = choice_open store i c cells h (omega arith) f e in
       let no_fewer = le-ltb (table_rows store (pattern_in pattern) i (suc c)) rows (omega arith) in
       rw (add-one c, p, q) (record { chosen = best-next store (pattern_in pattern) i true false v allowed no_fewer; counted = v.counted })
 
-  pub best_closed : found ≡ Nothing → number' ≡ number → rows' ≡ rows → BestTo store (pattern_in pattern) i (c + 1) number' rows'
+  pub best_closed : found ≡ None → number' ≡ number → rows' ≡ rows → BestTo store (pattern_in pattern) i (c + 1) number' rows'
   best_closed e p q =
       let shut = choice_closed store i c cells h (omega arith) f e in
       rw (add-one c, p, q) (record { chosen = best-next store (pattern_in pattern) i false _ v shut refl; counted = v.counted })

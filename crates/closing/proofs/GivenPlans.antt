@@ -1,95 +1,132 @@
 -- Questions 10 to 20 by what was read of a check and of a plan given for it; and what follows them in `run` and `whether`.
+use Rattle.std.specs.Prelude.{Option, Some, None as Nothing, Result, Ok, Err}
 use Prim.Native.Nat.{ℕ}
 use mathlib.Core.Path.{◌≡◌, refl, sym, ap, ◌∙◌}
 use mathlib.Core.Bool.{Bool, true, false, cond}
 use mathlib.Core.List.{List}
 use lib.ListN.{length}
 use lib.Dec.{ltb}
-use Rattle.model.specs.Reader.{Reply, refused}
+use Rattle.model.specs.Reader.{Reply, refused, gives}
+use Rattle.model.specs.Results.{refusal_number, whether_answer}
 use Rattle.model.specs.Store.{decoded}
-use Rattle.model.specs.Pattern.{Pattern, width}
+use Rattle.model.specs.Pattern.{is_accepted}
 use Rattle.model.specs.Plan.{Plan}
 use Rattle.model.specs.PlanFile.{read_plan}
 use Rattle.model.specs.Solutions.{solutions}
 use Rattle.model.specs.Join.{nothing_met}
 use Rattle.model.specs.Calls.{outcome, unaltered, either, Check, check_of, checked, given_plan_under, given_plan, rows_outcome, run_under, run, yes_or_no, whether_under, whether}
 use Rattle.model.specs.declared.answer.Answer.TheVariants.{None, Yes, No, Refused}
+use Rattle.model.specs.declared.refusal.Refusal.{Refusal}
 use Rattle.model.proofs.Calls.{none_by_counts_lem}
+use Rattle.model.proofs.Results.{err_refused, ok_gives, refused_as, either_refused, either_gives}
 use Rattle.model.proofs.Whether.{told_found}
 use Rattle.positions.specs.Members.{pattern_in}
-use Rattle.positions.proofs.ReplyLaws.{reply_refused, reply_given, either_refused, either_gives}
 use Rattle.patterns.specs.declared.pattern_reader.PatternRead.{PatternRead}
 use Rattle.scanning.specs.PhysicalPlan.{join_from}
 use Rattle.joining.specs.Results.{rows_found}
-use Rattle.running.specs.Prepared.{StepsGiven, PreparedAs}
-use Rattle.running.specs.declared.preparing.Prepared.{Prepared}
+use Rattle.running.specs.Prepared.{PreparedAs}
+use Rattle.running.specs.declared.preparing.PhysicalPlan.{PhysicalPlan}
+use Rattle.running.specs.Planned.{IsPlanned}
 use Rattle.running.proofs.PlannedSteps.{rows_are, as_many}
-use Rattle.closing.specs.Checks.{CheckedAs}
+use Rattle.closing.specs.Checks.{CheckedAs, PlanGiven, PlanGivenAs}
 use Rattle.closing.proofs.Checks.{after_refusal, after_check, check_given}
 
-module _ (words bytes plan_bytes : List ℕ) (r : PatternRead) (read : CheckedAs words (checked words bytes) r) where
+-- ---- what was given
+
+module _ (words bytes plan_bytes : List ℕ) {r : Result PatternRead Refusal} (read : CheckedAs words (checked words bytes) r) where
   -- the check is refused
-  pub check_refused : {B : Type 0} (refusal : ℕ → B) (next : Check → B) → (r.refusal ≡ 0 → ⊥) → either refusal (given_plan words bytes plan_bytes) next ≡ refusal r.refusal
-  unfolding given_plan_under
-  check_refused refusal next h = either_refused refusal next (after_refusal words bytes r read refused _ h)
+  module _ {e : Refusal} (h : r ≡ Err e) where
+    no_check : given_plan words bytes plan_bytes ≡ refused (refusal_number e)
+    unfolding given_plan_under
+    no_check = after_refusal words bytes read refused _ h
+
+    pub check_refused : {B : Type 0} (refusal : ℕ → B) (next : Check → B) → either refusal (given_plan words bytes plan_bytes) next ≡ refusal (refusal_number e)
+    check_refused refusal next = either_refused refusal next no_check
+
+    pub check_refused_as : PlanGivenAs words (given_plan words bytes plan_bytes) (Err e)
+    check_refused_as = refused_as (PlanGiven words) e no_check
 
   -- it is accepted
-  module _ (accepted : r.refusal ≡ 0) where
-    abbrev pattern : Pattern
-    pattern = pattern_in r.pattern
+  pub plan_given : {p : PatternRead} (given : Result (Option PhysicalPlan) Refusal) → r ≡ Ok p
+      → PreparedAs words (pattern_in p.pattern) (read_plan (decoded words) (pattern_in p.pattern) plan_bytes) given
+      → PlanGivenAs words (given_plan words bytes plan_bytes) given
+  unfolding given_plan_under either
+  plan_given {p} given h prepared =
+      rw (after_check words bytes read refused (λ (c : Check). either refused (read_plan c.store c.pattern plan_bytes) (λ _. gives c)) h)
+      (go (read_plan (decoded words) (pattern_in p.pattern) plan_bytes) prepared)
+    where
+      accepted : is_accepted (decoded words).site (pattern_in p.pattern) ≡ true
+      accepted = (check_given words bytes read h).2
 
-    abbrev plan_reply : Reply Plan
-    plan_reply = read_plan (decoded words) pattern plan_bytes
+      go : (reply : Reply Plan) → PreparedAs words (pattern_in p.pattern) reply given
+          → PlanGivenAs words (either refused reply (λ _. gives (check_of (decoded words) (pattern_in p.pattern)))) given
+      go (refused n) t = t
+      go (gives plan) t = (t.0, t.1, (refl, accepted, t.2))
 
-    module _ (steps : List ℕ) (p : Prepared) (prepared : PreparedAs words steps pattern plan_reply p) where
-      -- and the plan is refused
-      pub plan_refused : {B : Type 0} (refusal : ℕ → B) (next : Check → B) → (p.refusal ≡ 0 → ⊥) → either refusal (given_plan words bytes plan_bytes) next ≡ refusal p.refusal
-      unfolding given_plan_under
-      plan_refused refusal next h =
-          let no-plan = reply_refused (λ _. StepsGiven words steps pattern p) plan_reply prepared h in
-          either_refused refusal next (after_check words bytes r read refused _ accepted ∙ either_refused _ _ no-plan)
+  -- and the plan is refused
+  pub plan_refused : {p : PatternRead} (e : Refusal) → r ≡ Ok p → PreparedAs words (pattern_in p.pattern) (read_plan (decoded words) (pattern_in p.pattern) plan_bytes) (Err e)
+      → {B : Type 0} (refusal : ℕ → B) (next : Check → B) → either refusal (given_plan words bytes plan_bytes) next ≡ refusal (refusal_number e)
+  plan_refused e h prepared refusal next =
+      either_refused refusal next (err_refused (PlanGiven words) (given_plan words bytes plan_bytes) (plan_given _ h prepared) refl)
 
-      -- and so is the plan
-      module _ (proper : p.refusal ≡ 0) where
-        both_given : {B : Type 0} (refusal : ℕ → B) (next : Check → B) → either refusal (given_plan words bytes plan_bytes) next ≡ next (check_of (decoded words) pattern)
-        unfolding given_plan_under
-        both_given refusal next =
-            let given = reply_given (λ _. StepsGiven words steps pattern p) plan_reply prepared proper in
-            either_gives refusal next (after_check words bytes r read refused _ accepted ∙ either_gives _ _ given.1)
+-- ---- what follows
 
-        pub steps_given : StepsGiven words steps pattern p
-        steps_given = (reply_given (λ _. StepsGiven words steps pattern p) plan_reply prepared proper).2
+module _ (words bytes plan_bytes : List ℕ) {r : Result (Option PhysicalPlan) Refusal} (read : PlanGivenAs words (given_plan words bytes plan_bytes) r) where
+  module _ {e : Refusal} (h : r ≡ Err e) where
+    not_given : given_plan words bytes plan_bytes ≡ refused (refusal_number e)
+    not_given = err_refused (PlanGiven words) (given_plan words bytes plan_bytes) read h
 
-        abbrev all : List (List ℕ)
-        all = solutions (decoded words).site pattern
+    pub run_refused : (memory : List ℕ) → run words bytes plan_bytes memory ≡ unaltered memory (refusal_number e)
+    unfolding run_under
+    run_refused memory = either_refused (unaltered memory) _ not_given
 
-        -- the counts say that there is no solution
-        pub run_none : (memory : List ℕ) → p.empty ≡ true → run words bytes plan_bytes memory ≡ outcome None memory
-        unfolding run_under
-        run_none memory none = both_given (unaltered memory) _ ∙ rw (sym steps_given.0 ∙ none) refl
+    pub whether_refused : whether words bytes plan_bytes ≡ Refused (refusal_number e)
+    unfolding whether_under
+    whether_refused = either_refused Refused _ not_given
 
-        pub whether_none : p.empty ≡ true → whether words bytes plan_bytes ≡ No
-        unfolding whether_under yes_or_no
-        whether_none none =
-            both_given Refused _
-            ∙ ap yes_or_no (none_by_counts_lem (decoded words).site pattern (check_given words bytes r read accepted).2 (sym steps_given.0 ∙ none))
+  -- the counts say that there is no solution
+  module _ (h : r ≡ Ok Nothing) where
+    pub run_none : (memory : List ℕ) → run words bytes plan_bytes memory ≡ outcome None memory
+    unfolding run_under
+    run_none memory =
+        let (check, gave, (store, accepted, none)) = ok_gives (PlanGiven words) (given_plan words bytes plan_bytes) read h in
+        either_gives (unaltered memory) _ gave ∙ rw (store, none) refl
 
-        -- they do not, and the steps are joined
-        pub run-rows : (memory : List ℕ) → p.empty ≡ false
-            → run words bytes plan_bytes memory ≡ rows_outcome p.width (rows_found words steps p.count p.width) memory
-        unfolding run_under
-        run-rows memory some =
-            let (planned, wide) = steps_given.1 some in
-            both_given (unaltered memory) _
-            ∙ ap (λ (b : Bool). cond b (outcome None memory) (rows_outcome (width pattern) all memory)) (sym steps_given.0 ∙ some)
-            ∙ ap (λ (v : ℕ). rows_outcome v all memory) (sym wide)
-            ∙ ap (λ (rows : List (List ℕ)). rows_outcome p.width rows memory) (sym (rows_are pattern planned wide))
+    pub whether_none : whether words bytes plan_bytes ≡ No
+    unfolding whether_under yes_or_no
+    whether_none =
+        let (check, gave, (store, accepted, none)) = ok_gives (PlanGiven words) (given_plan words bytes plan_bytes) read h in
+        either_gives Refused _ gave ∙ rw store (ap yes_or_no (none_by_counts_lem (decoded words).site check.pattern accepted none))
 
-        pub whether_found : {found b : Bool} → p.empty ≡ false → found ≡ ltb 0 (length (join_from words steps p.count p.count nothing_met)) → found ≡ b
-            → whether words bytes plan_bytes ≡ cond b Yes No
-        unfolding whether_under
-        whether_found some asked same =
-            both_given Refused _
-            ∙ told_found all
-            ∙ ap (λ (n : ℕ). cond (ltb 0 n) Yes No) (sym (as_many pattern (steps_given.1 some).0))
-            ∙ ap (λ (b : Bool). cond b Yes No) (sym asked ∙ same)
+  -- they do not, and the steps are joined
+  module _ {p : PhysicalPlan} (h : r ≡ Ok (Some p)) where
+    pub run-rows : (memory : List ℕ) → run words bytes plan_bytes memory ≡ rows_outcome p.width (rows_found words p.steps p.count p.width) memory
+    unfolding run_under
+    run-rows memory =
+        let (check, gave, (store, accepted, (some, planned, wide))) = ok_gives (PlanGiven words) (given_plan words bytes plan_bytes) read h in
+        let all = solutions (decoded words).site check.pattern in
+        either_gives (unaltered memory) _ gave
+        ∙ rw (store, some)
+        (ap (λ (v : ℕ). rows_outcome v all memory) (sym wide)
+        ∙ ap (λ (rows : List (List ℕ)). rows_outcome p.width rows memory) (sym (rows_are check.pattern planned wide)))
+
+    pub whether_found : {found : Bool} → found ≡ ltb 0 (length (join_from words p.steps p.count p.count nothing_met))
+        → whether words bytes plan_bytes ≡ whether_answer (Ok found)
+    unfolding whether_under
+    whether_found {found} asked =
+        let (check, gave, (store, accepted, (some, planned, wide))) = ok_gives (PlanGiven words) (given_plan words bytes plan_bytes) read h in
+        either_gives Refused _ gave
+        ∙ rw store
+        (told_found (solutions (decoded words).site check.pattern)
+        ∙ ap (λ (n : ℕ). cond (ltb 0 n) Yes No) (sym (as_many check.pattern planned))
+        ∙ ap (λ (b : Bool). cond b Yes No) (sym asked)
+        ∙ told found)
+      where
+        told : (b : Bool) → cond b Yes No ≡ whether_answer (Ok b)
+        told true = refl
+        told false = refl
+
+  pub planned_steps : {p : PhysicalPlan} → r ≡ Ok (Some p) → IsPlanned words p.steps p.count p.width
+  planned_steps h =
+      let (check, gave, (store, accepted, (some, planned, wide))) = ok_gives (PlanGiven words) (given_plan words bytes plan_bytes) read h in
+      (check.pattern, planned, wide)

@@ -6,6 +6,8 @@ pub mod Counting
 pub mod Sorting
 pub mod Growing
 pub mod Readers
+pub mod Results
+pub mod Chains
 pub mod Numbers
 pub mod NumberForm
 pub mod Questions

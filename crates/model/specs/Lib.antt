@@ -15,6 +15,7 @@ pub mod Planner
 pub mod Solutions
 pub mod Join
 pub mod Calls
+pub mod Results
 pub mod Answers
 pub mod Chain
 pub mod Text

@@ -1,13 +1,12 @@
 -- A number at a place of some bytes.
-use Rattle.std.specs.Prelude.{ℕ, ◌+◌, List, drop}
-use Rattle.std.proofs.Math.Option.{Option, none, some}
+use Rattle.std.specs.Prelude.{ℕ, ◌+◌, List, drop, Option, Some, None}
+use Rattle.std.proofs.Math.Option.{Option as Optional, none, some}
 use Rattle.model.specs.Numbers.{Sized, number_in}
-use Rattle.numbers.specs.declared.number.Number.{Number}
-use Rattle.numbers.specs.declared.number.Number.TheVariants.{Value, Bad}
 
-abbrev pub placed : ℕ → Option Sized → Number
-placed at none = Bad
-placed at (some x) = Value x.0 (at + x.1)
+-- its value and the place after it
+abbrev pub placed : ℕ → Optional Sized → Option (ℕ × ℕ)
+placed at none = None
+placed at (some x) = Some (x.0, at + x.1)
 
-unfoldable pub number_at : List ℕ → ℕ → Number
+unfoldable pub number_at : List ℕ → ℕ → Option (ℕ × ℕ)
 number_at s at = placed at (number_in (drop at s))

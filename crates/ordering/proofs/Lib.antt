@@ -1,3 +1,4 @@
 -- Laws that the proofs of this crate cite.
 pub mod MetNotes
 pub mod Picking
+pub mod Reducing

@@ -3,3 +3,4 @@
 
 pub mod met;
 pub mod ordering;
+pub mod place;

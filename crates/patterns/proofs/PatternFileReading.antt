@@ -2,7 +2,7 @@
 use Prim.Native.Nat.{ℕ, ◌+◌, ◌<◌, ◌≤◌}
 use native.Mathlib.Numerals.{add-one}
 use native.Mathlib.Omega.{arith}
-use mathlib.Core.Path.{◌≡◌, refl, sym, ap, ◌∙◌, subst}
+use mathlib.Core.Path.{◌≡◌, refl, sym, ap, ◌∙◌}
 use mathlib.Core.Bool.{Bool, true, false}
 use mathlib.Core.List.{List, [], ◌∷◌, ◌++◌, map, map-append}
 use lib.ListN.{length, get_or, take, drop, set, length-set, drop_of_length-le}
@@ -11,7 +11,10 @@ use lib.Dec.{eqb}
 use borrow.Author.Tests.{eqb-true, eqb-false}
 use Rattle.model.specs.Lists.{concat_map}
 use Rattle.model.specs.Reader.{Reply, refused, gives, after, ask, repeated, whole_file}
+use Rattle.model.specs.Results.{refusal_number}
 use Rattle.model.specs.Site.{Site}
+use Rattle.model.specs.declared.refusal.Refusal.{Refusal}
+use Rattle.std.specs.Prelude.{Some, None, Ok, Err}
 use Rattle.model.specs.Pattern.{Pattern, most_triple_patterns, most_variables, positions, variables, width, is_pattern_length}
 use Rattle.model.specs.PatternFile.{triple_pattern, pattern_file_under, read_pattern_under, read_pattern}
 use Rattle.model.specs.declared.pattern.TriplePattern.{TriplePattern}
@@ -19,49 +22,21 @@ use Rattle.model.proofs.Blocks.{concat_map-append}
 use Rattle.model.proofs.Readers.{PartRead, none_read, all_read_lem, next_refused, next_read}
 use Rattle.model.proofs.Patterns.{variables-append, triple_limit}
 use Rattle.model.proofs.PatternFile.{triple_reads}
-use Rattle.model.proofs.Refusals.{pattern_refuses}
+use Rattle.model.proofs.Results.{err_refused, ok_gives}
 use Rattle.numbers.specs.NumberAt.{number_at}
-use Rattle.numbers.specs.declared.number.Number.TheVariants.{Value, Bad}
 use Rattle.numbers.proofs.NumberReplies.{number_bad, number-value}
 use Rattle.positions.specs.Members.{no_member, TableOf, EndsOf, EndsHold, PatternHolds}
-use Rattle.patterns.specs.Replies.{MemberReadAs, MemberReadOf, PatternReadAs}
+use Rattle.patterns.specs.Replies.{MemberHolds, MemberReadOf, PatternReadAs}
 use Rattle.positions.specs.declared.pattern.Member.{Member}
 use Rattle.positions.specs.declared.pattern.Pattern.{Pattern as Members}
-use Rattle.patterns.specs.declared.pattern_reader.MemberRead.{MemberRead}
-use Rattle.patterns.specs.declared.pattern_reader.MemberRead.TheVariants.{Member as MemberGiven, Refused}
-use Rattle.patterns.specs.declared.pattern_reader.PatternRead.{PatternRead}
+use Rattle.patterns.specs.declared.pattern_reader.ReadMember.{ReadMember}
 use Rattle.positions.proofs.MemberLaws.{pattern-length}
 
--- ---- a triple pattern as the code has it
+-- ---- the triple patterns, read one by one
 
 gives_same : {q q' : TriplePattern} {rest rest' : List ℕ} → q ≡ q' → rest ≡ rest'
     → ◌≡◌ {A = Reply (TriplePattern × List ℕ)} (gives (q, rest)) (gives (q', rest'))
 gives_same p e = rw (p, e) refl
-
-module _ (site : Site) (met : ℕ) (s : List ℕ) {r : MemberRead} where
-  was_refused : (reply : Reply (TriplePattern × List ℕ)) {m : ℕ} → MemberReadAs site met reply s r → r ≡ Refused m → reply ≡ refused m
-  was_refused (refused n) t e = cc
-  was_refused (gives x) t e = cc
-
-  was_given : (reply : Reply (TriplePattern × List ℕ)) {member : Member} {subject object count next : ℕ} → MemberReadAs site met reply s r
-      → r ≡ MemberGiven member subject object count next
-      → (reply ≡ gives (member.triple, drop next s)) × (count ≡ variables met (positions member.triple)) × TableOf site member × EndsOf member subject object
-  was_given (refused n) t e = let z : ◌≡◌ {A = ℕ} 0 1 = cc in absurd (omega arith)
-  was_given (gives x) {member} {subject} {object} {count} {next} t e =
-      let same : t.0 ≡ member = cc in
-      let first : t.1 ≡ subject = cc in
-      let third : t.2 ≡ object = cc in
-      let place : t.3 ≡ next = cc in
-      let total : count ≡ variables met (positions x.0) = cc in
-      let triple : x.0 ≡ member.triple = sym t.6 ∙ ap (λ (m : Member). m.triple) same in
-      let rest : x.1 ≡ drop next s = t.5 ∙ ap (λ (k : ℕ). drop k s) place in (
-        gives_same triple rest,
-        total ∙ ap (λ (q : TriplePattern). variables met (positions q)) triple,
-        subst (TableOf site) same t.7,
-        record { subject_is = rw (← first, ← same) t.8.subject_is; object_is = rw (← third, ← same) t.8.object_is },
-      )
-
--- ---- the triple patterns, read one by one
 
 -- the first i cells of an array, and their variables
 abbrev pub up_to : List Member → ℕ → ℕ → Members
@@ -119,56 +94,58 @@ module _ {site : Site} {n : ℕ} {bytes s : List ℕ} {members : List Member} {s
     one_left : length (triples_to members i) < n
     one_left = rw (pattern-length v.holds.counted) more
 
-    module _ {r : MemberRead} (read : MemberReadOf site met next s r) where
-      pub next_member_refused : {m : ℕ} → r ≡ Refused m → repeated (triple_pattern site) n [] bytes ≡ refused m
-      next_member_refused e = next_refused v.part one_left (was_refused site met s _ (read _ (sym v.holds.wide)) e)
+    pub next_member_refused : (e : Refusal) → MemberReadOf site met next s (Err e) → repeated (triple_pattern site) n [] bytes ≡ refused (refusal_number e)
+    next_member_refused e read = next_refused v.part one_left (err_refused (MemberHolds site met s) _ (read _ (sym v.holds.wide)) refl)
 
-      pub next_member_read : {member : Member} {subject object count after : ℕ} → r ≡ MemberGiven member subject object count after
-          → MembersRead site n bytes s (set members i member) (set subjects i subject) (set objects i object) count after (i + 1)
-      next_member_read {member} {subject} {object} {count} {after} e =
-          let done = triples_to members i in
-          let grown = members_snoc members i member (omega (arith, v.most, v.size)) in
-          let (given, total, table, ends) = was_given site met s _ (read done (sym v.holds.wide)) e in
-          let passes = ((triple_reads site).read done (drop next s) given).0 in
-          record {
-            most = v.most;
-            size = length-set members i member ∙ v.size;
-            subject_size = length-set subjects i subject ∙ v.subject_size;
-            object_size = length-set objects i object ∙ v.object_size;
-            part = rw grown (next_read v.part one_left given);
-            holds = record {
-              counted = record { few = omega (arith, v.most); cells = rw length-set (omega (arith, v.most, v.size)) };
-              tables = λ j h. go table j h (eqb j i) refl;
-              wide = rw (grown, width_snoc, ← v.holds.wide) total;
-            };
-            numbers = record { ends = λ j h. ends_go ends j h (eqb j i) refl };
-            few = rw total (triple_limit site met member.triple (rw v.holds.wide passes) v.few);
-          }
-        where
-          go : TableOf site member → (j : ℕ) → j < i + 1 → (b : Bool) → eqb j i ≡ b → TableOf site (get_or (set members i member) j no_member)
-          go table j h true e = rw (eqb-true j i e, get_or-set_same members i member no_member (omega (arith, v.most, v.size))) table
-          go table j h false e =
-              let other = eqb-false j i e in
-              rw (get_or-set_other members i j member no_member other) (v.holds.tables j (omega arith))
+    pub next_member_read : (read : ReadMember) → MemberReadOf site met next s (Ok read)
+        → MembersRead site n bytes s (set members i read.member) (set subjects i read.subject) (set objects i read.object) read.met read.next (i + 1)
+    next_member_read r read =
+        let member = r.member in
+        let done = triples_to members i in
+        let grown = members_snoc members i member (omega (arith, v.most, v.size)) in
+        let (x, reply, held) = ok_gives (MemberHolds site met s) _ (read done (sym v.holds.wide)) refl in
+        let given : triple_pattern site done (drop next s) ≡ gives (member.triple, drop r.next s) = reply ∙ gives_same (sym held.triple) held.rest in
+        let total : r.met ≡ variables met (positions member.triple) = held.counted ∙ ap (λ (q : TriplePattern). variables met (positions q)) (sym held.triple) in
+        let passes = ((triple_reads site).read done (drop next s) given).0 in
+        record {
+          most = v.most;
+          size = length-set members i member ∙ v.size;
+          subject_size = length-set subjects i r.subject ∙ v.subject_size;
+          object_size = length-set objects i r.object ∙ v.object_size;
+          part = rw grown (next_read v.part one_left given);
+          holds = record {
+            counted = record { few = omega (arith, v.most); cells = rw length-set (omega (arith, v.most, v.size)) };
+            tables = λ j h. table_go held.table j h (eqb j i) refl;
+            wide = rw (grown, width_snoc, ← v.holds.wide) total;
+          };
+          numbers = record { ends = λ j h. ends_go held.ends j h (eqb j i) refl };
+          few = rw total (triple_limit site met member.triple (rw v.holds.wide passes) v.few);
+        }
+      where
+        table_go : TableOf site r.member → (j : ℕ) → j < i + 1 → (b : Bool) → eqb j i ≡ b → TableOf site (get_or (set members i r.member) j no_member)
+        table_go table j h true e = rw (eqb-true j i e, get_or-set_same members i r.member no_member (omega (arith, v.most, v.size))) table
+        table_go table j h false e =
+            let other = eqb-false j i e in
+            rw (get_or-set_other members i j r.member no_member other) (v.holds.tables j (omega arith))
 
-          ends_go : EndsOf member subject object → (j : ℕ) → j < i + 1 → (b : Bool) → eqb j i ≡ b
-              → EndsOf (get_or (set members i member) j no_member) (get_or (set subjects i subject) j 0) (get_or (set objects i object) j 0)
-          ends_go ends j h true e =
-              rw (eqb-true j i e, get_or-set_same members i member no_member (omega (arith, v.most, v.size)))
-              (rw (get_or-set_same subjects i subject 0 (omega (arith, v.most, v.subject_size)), get_or-set_same objects i object 0 (omega (arith, v.most, v.object_size))) ends)
-          ends_go ends j h false e =
-              let other = eqb-false j i e in
-              rw (get_or-set_other members i j member no_member other, get_or-set_other subjects i j subject 0 other, get_or-set_other objects i j object 0 other)
-              (v.numbers.ends j (omega arith))
+        ends_go : EndsOf r.member r.subject r.object → (j : ℕ) → j < i + 1 → (b : Bool) → eqb j i ≡ b
+            → EndsOf (get_or (set members i r.member) j no_member) (get_or (set subjects i r.subject) j 0) (get_or (set objects i r.object) j 0)
+        ends_go ends j h true e =
+            rw (eqb-true j i e, get_or-set_same members i r.member no_member (omega (arith, v.most, v.size)))
+            (rw (get_or-set_same subjects i r.subject 0 (omega (arith, v.most, v.subject_size)), get_or-set_same objects i r.object 0 (omega (arith, v.most, v.object_size))) ends)
+        ends_go ends j h false e =
+            let other = eqb-false j i e in
+            rw (get_or-set_other members i j r.member no_member other, get_or-set_other subjects i j r.subject 0 other, get_or-set_other objects i j r.object 0 other)
+            (v.numbers.ends j (omega arith))
 
 -- ---- the ways out of the file
 
 module _ (site : Site) (s : List ℕ) where
-  pub no_count : number_at s 0 ≡ Bad → read_pattern site s ≡ refused 11
+  pub no_count : number_at s 0 ≡ None → read_pattern site s ≡ refused 11
   unfolding read_pattern_under whole_file pattern_file_under after
   no_count e = rw (number_bad 11 s 0 e) refl
 
-  module _ {n at : ℕ} (e : number_at s 0 ≡ Value n at) where
+  module _ {n at : ℕ} (e : number_at s 0 ≡ Some (n, at)) where
     pub count_refused : is_pattern_length n ≡ false → read_pattern site s ≡ refused 12
     unfolding read_pattern_under whole_file pattern_file_under after ask
     count_refused t = rw (number-value 11 s 0 e, t) refl
@@ -189,12 +166,13 @@ module _ (site : Site) (s : List ℕ) where
 
   -- ---- what the code returns
 
-  pub returns_refusal : (r : PatternRead) {m : ℕ} → read_pattern site s ≡ refused m → r.refusal ≡ m → PatternReadAs site (read_pattern site s) r
-  returns_refusal r {m} e q = let between = (pattern_refuses site s).number_between m e in rw e (q, omega (arith, between.0))
+  pub returns_refusal : (e : Refusal) → read_pattern site s ≡ refused (refusal_number e) → PatternReadAs site (read_pattern site s) (Err e)
+  returns_refusal e q = rw q (e, refl, refl)
 
-  pub returns_pattern : {n at met next i : ℕ} {members : List Member} {subjects objects : List ℕ} → number_at s 0 ≡ Value n at → is_pattern_length n ≡ true
+  pub returns_pattern : {n at met next i : ℕ} {members : List Member} {subjects objects : List ℕ} → number_at s 0 ≡ Some (n, at) → is_pattern_length n ≡ true
       → MembersRead site n (drop at s) s members subjects objects met next i → n ≤ i → length s ≤ next
-      → PatternReadAs site (read_pattern site s) (record { refusal = 0; pattern = up_to members n met; subjects = subjects; objects = objects })
-  returns_pattern {n = n} {i = i} {members = members} e t v h k =
+      → PatternReadAs site (read_pattern site s) (Ok (record { pattern = up_to members n met; subjects = subjects; objects = objects }))
+  returns_pattern {n = n} {met = met} {i = i} {members = members} {subjects} {objects} e t v h k =
       let all : n ≡ i = omega (arith, v.part.count, pattern-length v.holds.counted) in
-      rw (pattern_given e t _ (every_member v h) k) (refl, (rw all v.holds, rw all v.numbers, ap (λ (j : ℕ). triples_to members j) all))
+      rw (pattern_given e t _ (every_member v h) k)
+      (record { pattern = up_to members n met; subjects = subjects; objects = objects }, refl, (rw all v.holds, rw all v.numbers, ap (λ (j : ℕ). triples_to members j) all))

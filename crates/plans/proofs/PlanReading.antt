@@ -19,7 +19,21 @@ use Rattle.model.proofs.Booleans.{and_make}
 use Rattle.model.proofs.Membership.{any_append}
 use Rattle.model.proofs.Blocks.{concat_map-append, length-concat_map}
 use Rattle.numbers.specs.NumberAt.{number_at}
-use Rattle.numbers.specs.declared.number.Number.TheVariants.{Value, Bad}
+use Rattle.std.specs.Prelude.{Some, None, Result, Ok, Err}
+use mathlib.Core.Logic.{◌⊎◌, inl, inr}
+use mathlib.Core.List.{map-append}
+use lib.ListN.{get_or-replicate, length-set}
+use Rattle.model.specs.Store.{decoded}
+use Rattle.model.specs.Results.{refusal_number}
+use Rattle.model.specs.declared.plan.Plan.{Plan as PlanNumbers}
+use Rattle.model.specs.declared.refusal.Refusal.{Refusal}
+use Rattle.model.specs.declared.refusal.Refusal.TheVariants.{PlanMalformed}
+use Rattle.model.proofs.Readers.{PartRead, none_read, all_read_lem, next_refused, next_read}
+use Rattle.model.proofs.Results.{refused_as, gives_as}
+use Rattle.positions.specs.Members.{PatternCells, pattern_in}
+use Rattle.positions.specs.declared.pattern.Pattern.{Pattern as Members}
+use Rattle.positions.proofs.MemberLaws.{pattern-length}
+use Rattle.plans.specs.Replies.{PlanReadAs}
 use Rattle.numbers.proofs.NumberReplies.{number_bad, number-value}
 
 -- ---- a place that no step has yet
@@ -40,21 +54,21 @@ module _ (pattern : Pattern) (done : Plan) (i : ℕ) where
 -- ---- the ways out of a step
 
 module _ (store : Store) (pattern : Pattern) (done : Plan) (s : List ℕ) (at : ℕ) where
-  pub no_place : number_at s at ≡ Bad → step store pattern done (drop at s) ≡ refused 18
+  pub no_place : number_at s at ≡ None → step store pattern done (drop at s) ≡ refused 18
   unfolding step_under after
   no_place e = rw (number_bad 18 s at e) refl
 
-  module _ {i middle : ℕ} (e : number_at s at ≡ Value i middle) where
+  module _ {i middle : ℕ} (e : number_at s at ≡ Some (i, middle)) where
     pub place_refused : is_open pattern done i ≡ false → step store pattern done (drop at s) ≡ refused 19
     unfolding step_under after ask
     place_refused t = rw (number-value 18 s at e, t) refl
 
     module _ (t : is_open pattern done i ≡ true) where
-      pub no_choice : number_at s middle ≡ Bad → step store pattern done (drop at s) ≡ refused 18
+      pub no_choice : number_at s middle ≡ None → step store pattern done (drop at s) ≡ refused 18
       unfolding step_under after ask
       no_choice f = rw (number-value 18 s at e, t, number_bad 18 s middle f) refl
 
-      module _ {c next : ℕ} (f : number_at s middle ≡ Value c next) where
+      module _ {c next : ℕ} (f : number_at s middle ≡ Some (c, next)) where
         pub choice_refused : may_choose store pattern i c ≡ false → step store pattern done (drop at s) ≡ refused 20
         unfolding step_under after ask
         choice_refused m = rw (number-value 18 s at e, t, number-value 18 s middle f, m) refl
@@ -126,3 +140,66 @@ step-written done x h =
       append_snoc numbers x.place (x.choice ∷ []),
       concat_map-append step_numbers done (x ∷ []),
     ) refl
+
+-- ---- what n steps leave: their numbers stand in the array, and their places are noted as taken
+
+pub record StepsRead (w : List ℕ) (pattern : Members) (s steps : List ℕ) (taken : List Bool) (next n : ℕ) : Type 0 where
+  pub done : Plan
+  pub count : length done ≡ n
+  pub part : PartRead (step (decoded w) (pattern_in pattern)) (length (pattern_in pattern)) s done (drop next s)
+  pub written : steps ≡ (plan_numbers done).steps
+  pub size : length taken ≡ most_triple_patterns
+  pub noted : (i : ℕ) → i < most_triple_patterns → get_or taken i false ≡ any (eqb i) (places_of done)
+
+module _ {w : List ℕ} {pattern : Members} (held : PatternCells pattern) where
+  pub none_taken : (s steps : List ℕ) → steps ≡ replicate (2 * most_triple_patterns) 0
+      → StepsRead w pattern s steps (replicate most_triple_patterns false) 0 0
+  none_taken s steps e = record {
+    done = [];
+    count = refl;
+    part = none_read;
+    written = e;
+    size = refl;
+    noted = λ i h. get_or-replicate most_triple_patterns i false false h;
+  }
+
+  module _ {s steps : List ℕ} {taken : List Bool} {next n : ℕ} (v : StepsRead w pattern s steps taken next n) where
+    -- the file is refused, or its plan given, as the code returns it
+    abbrev FileReadAs : Result PlanNumbers Refusal → Type 0
+    FileReadAs = PlanReadAs (read_plan (decoded w) (pattern_in pattern) s)
+
+    pub step_refused : n < pattern.count → (e : Refusal) → step (decoded w) (pattern_in pattern) v.done (drop next s) ≡ refused (refusal_number e) → FileReadAs (Err e)
+    step_refused more e q = refused_as _ e (steps_refused _ _ _ (next_refused v.part (rw (pattern-length held) (omega (arith, v.count))) q))
+
+    pub place_closed : {i : ℕ} → (pattern.count ≤ i) ⊎ ((i < pattern.count) × (get_or taken i false ≡ true)) → is_open (pattern_in pattern) v.done i ≡ false
+    place_closed (inl h) = place_absent (pattern_in pattern) v.done _ (rw (pattern-length held) h)
+    place_closed (inr h) = place_taken (pattern_in pattern) v.done _ (sym (v.noted _ (omega (arith, held.few))) ∙ h.1)
+
+    pub place_left : {i : ℕ} → i < pattern.count → get_or taken i false ≡ false → is_open (pattern_in pattern) v.done i ≡ true
+    place_left h e = place_open (pattern_in pattern) v.done _ (rw (pattern-length held) h) (sym (v.noted _ (omega (arith, held.few))) ∙ e)
+
+    pub step_read : n < pattern.count → (x : Step) → x.place < pattern.count → {after : ℕ}
+        → step (decoded w) (pattern_in pattern) v.done (drop next s) ≡ gives (x, drop after s)
+        → StepsRead w pattern s (set (set steps (2 * n) x.place) (2 * n + 1) x.choice) (set taken x.place true) after (n + 1)
+    step_read more x inside q = record {
+      done = v.done ++ x ∷ [];
+      count = rw length-append (omega (arith, v.count));
+      part = next_read v.part (rw (pattern-length held) (omega (arith, v.count))) q;
+      written = rw (v.written, ← v.count) (step-written v.done x (omega (arith, v.count, held.few)));
+      size = simp length-set v.size;
+      noted = λ i h.
+          rw map-append
+          (place_noted taken (places_of v.done) x.place (omega (arith, v.size, held.few)) i (v.noted i h));
+    }
+
+    module _ (all : pattern.count ≤ n) where
+      all_steps : repeated (step (decoded w) (pattern_in pattern)) (length (pattern_in pattern)) [] s ≡ gives (v.done, drop next s)
+      all_steps = all_read_lem v.part (rw (pattern-length held) (omega (arith, v.count)))
+
+      pub not_ended : next < length s → FileReadAs (Err PlanMalformed)
+      not_ended h = refused_as _ PlanMalformed (bytes_left _ _ _ _ all_steps h)
+
+      pub plan_read : length s ≤ next → FileReadAs (Ok (record { steps = steps; count = pattern.count }))
+      plan_read h =
+          let e : pattern.count ≡ length v.done = omega (arith, pattern-length held, v.part.count, v.count) in
+          gives_as _ (plan_given _ _ _ _ all_steps h) (rw (v.written, e) refl)

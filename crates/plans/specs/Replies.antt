@@ -1,10 +1,11 @@
 -- What was read of a plan, as the code has it.
-use Rattle.std.specs.Prelude.{◌≡◌}
+use Rattle.std.specs.Prelude.{◌≡◌, Result}
 use Rattle.model.specs.Reader.{Reply}
+use Rattle.model.specs.Results.{ReplyAs}
 use Rattle.model.specs.Plan.{Plan}
 use Rattle.model.specs.Calls.{plan_numbers}
-use Rattle.positions.specs.Replies.{ReplyAs}
-use Rattle.plans.specs.declared.plan_reader.PlanRead.{PlanRead}
+use Rattle.model.specs.declared.plan.Plan.{Plan as PlanNumbers}
+use Rattle.model.specs.declared.refusal.Refusal.{Refusal}
 
-abbrev pub PlanReadAs : Reply Plan → PlanRead → Type 0
-PlanReadAs reply r = ReplyAs r.refusal (λ plan. r.plan ≡ plan_numbers plan) reply
+abbrev pub PlanReadAs : Reply Plan → Result PlanNumbers Refusal → Type 0
+PlanReadAs = ReplyAs (λ plan p. p ≡ plan_numbers plan)

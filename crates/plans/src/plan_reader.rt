@@ -7,29 +7,12 @@ ghost use Rattle.plans.specs.Replies.{PlanReadAs};
 
 use choosing::choosing::may_choose;
 use model::plan::Plan;
-use numbers::number::{Number, read_number};
+use model::refusal::Refusal;
+use numbers::number::read_number;
 use positions::pattern::Pattern;
 
-// What was read of a plan's file: 0 and the plan, or the refusal's number.
-#[derive(Clone, Copy)]
-pub struct PlanRead {
-    pub refusal: u32,
-    pub plan: Plan,
-}
-
-// Nothing stands beside a refusal.
-fn plan_refused(refusal: u32) -> PlanRead
-    ensures { result.refusal ≡ refusal }
-{
-    let plan = Plan {
-        steps: [0u8; 16],
-        count: 0,
-    };
-    PlanRead { refusal, plan }
-}
-
 // Questions 18 to 20.
-pub fn read_plan(w: &[u32], pattern: Pattern, s: &[u8]) -> PlanRead
+pub fn read_plan(w: &[u32], pattern: Pattern, s: &[u8]) -> Result<Plan, Refusal>
     requires { Validated w.now × PatternHolds (decoded w.now).site pattern }
     ensures { PlanReadAs (read_plan (decoded w.now) (pattern_in pattern) s.now) result }
 {
@@ -37,19 +20,19 @@ pub fn read_plan(w: &[u32], pattern: Pattern, s: &[u8]) -> PlanRead
     let mut taken = [false; 8];
     let mut next: usize = 0;
     for n in 0..pattern.count {
-        let Number::Value(first, middle) = read_number(s, next) else {
-            return plan_refused(18);
+        let Some((first, middle)) = read_number(s, next) else {
+            return Err(Refusal::PlanMalformed);
         };
         let place = first as usize;
         if pattern.count <= place || taken[place] {
-            return plan_refused(19);
+            return Err(Refusal::PlaceNotFree);
         }
-        let Number::Value(second, after) = read_number(s, middle) else {
-            return plan_refused(18);
+        let Some((second, after)) = read_number(s, middle) else {
+            return Err(Refusal::PlanMalformed);
         };
         let choice = second as usize;
         if !may_choose(w, pattern, place, choice) {
-            return plan_refused(20);
+            return Err(Refusal::ChoiceNotQualified);
         }
         steps[2 * n] = place as u8;
         steps[2 * n + 1] = choice as u8;
@@ -57,11 +40,10 @@ pub fn read_plan(w: &[u32], pattern: Pattern, s: &[u8]) -> PlanRead
         next = after;
     }
     if next < s.len() {
-        return plan_refused(18);
+        return Err(Refusal::PlanMalformed);
     }
-    let plan = Plan {
+    Ok(Plan {
         steps,
         count: pattern.count,
-    };
-    PlanRead { refusal: 0, plan }
+    })
 }

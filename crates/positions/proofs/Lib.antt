@@ -1,3 +1,2 @@
--- Laws on a pattern in memory and on replies.
+-- Laws on a pattern in memory.
 pub mod MemberLaws
-pub mod ReplyLaws

@@ -1,12 +1,13 @@
-ghost use Rattle.std.specs.Prelude.{◌≡◌, ◌<◌, ◌≤◌};
+ghost use Rattle.std.specs.Prelude.{◌≡◌, ◌≤◌};
 ghost use Rattle.model.specs.Pattern.{variables_with, most_variables, position_at, same_variable};
 ghost use Rattle.model.specs.PatternFile.{position_of, ask_position};
-ghost use Rattle.model.specs.declared.pattern.Position.TheVariants.{Var};
-ghost use Rattle.tables.specs.Columns.{column_of};
-ghost use Rattle.positions.specs.Replies.{replied};
+ghost use Rattle.tables.specs.Columns.{column_as};
+ghost use Rattle.model.specs.Results.{asked};
 
 use crate::pattern::MOST_VARIABLES;
 use model::pattern::{Position, TriplePattern};
+use model::refusal::Refusal;
+use tables::columns::Column;
 use tables::limits::MOST_TERM;
 
 // A position is 2t for the term t, or 2v + 1 for the variable v.
@@ -20,23 +21,14 @@ pub fn position_of(n: u32) -> Position
     }
 }
 
-// Questions 15 and 16 of a subject or an object, `met` variables before it: 0, or the number of the one that is answered no.
-pub fn position_refusal(x: Position, met: u32) -> u32
-    ensures { ask_position met x ≡ replied result }
+// Questions 15 and 16 of a subject or an object, `met` variables before it.
+pub fn check_position(x: Position, met: u32) -> Result<(), Refusal>
+    ensures { ask_position met x ≡ asked result }
 {
     match x {
-        Position::Term(t) => {
-            if MOST_TERM < t {
-                return 15;
-            }
-            0
-        }
-        Position::Var(v) => {
-            if MOST_VARIABLES <= v || met < v {
-                return 16;
-            }
-            0
-        }
+        Position::Term(t) if MOST_TERM < t => Err(Refusal::PositionNotATerm),
+        Position::Var(v) if MOST_VARIABLES <= v || met < v => Err(Refusal::VariableOutOfOrder),
+        _ => Ok(()),
     }
 }
 
@@ -47,37 +39,26 @@ pub fn variables_with(met: u32, x: Position) -> u32
 {
     match x {
         Position::Term(_) => met,
-        Position::Var(v) => { if v < met { met } else { v + 1 } }
+        Position::Var(v) => met.max(v + 1),
     }
 }
 
-// The position in a column, 0 the subject and 1 the object.
-pub fn position_at(q: TriplePattern, column: usize) -> Position
-    requires { column < 2 }
-    ensures { result ≡ position_at (column_of column) q }
+// The position in a column.
+pub fn position_at(q: TriplePattern, column: Column) -> Position
+    ensures { result ≡ position_at (column_as column) q }
 {
-    if column == 0 { q.subject } else { q.object }
-}
-
-// x holds the variable v.
-fn is_variable(x: Position, v: u32) -> bool
-    ensures { result ≡ same_variable (Var v) x }
-{
-    let Position::Var(w) = x else {
-        return false;
-    };
-    v == w
+    match column {
+        Column::Subject => q.subject,
+        Column::Object => q.object,
+    }
 }
 
 // Equal terms don't count.
 pub fn same_variable(x: Position, y: Position) -> bool
     ensures { result ≡ same_variable x y }
 {
-    match x {
-        Position::Term(_) => match y {
-            Position::Term(_) => false,
-            Position::Var(_) => false,
-        },
-        Position::Var(v) => is_variable(y, v),
+    match (x, y) {
+        (Position::Var(v), Position::Var(w)) => v == w,
+        _ => false,
     }
 }

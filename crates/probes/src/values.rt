@@ -1,16 +1,14 @@
-ghost use Rattle.std.specs.Prelude.{◌≡◌, drop, eqb};
-ghost use Rattle.model.specs.Lists.{any};
-ghost use Rattle.model.specs.Tables.{at};
-ghost use Rattle.model.specs.Store.{rows_in};
-ghost use Rattle.tables.specs.Columns.{column_of};
+ghost use Rattle.std.specs.Prelude.{◌≡◌};
 ghost use Rattle.statistics.specs.IndexedTables.{SearchableBy};
-ghost use Rattle.statistics.specs.Ranges.{has_value};
+ghost use Rattle.statistics.specs.Ranges.{has_side_value};
 ghost use Rattle.probes.specs.OneHashFilter.{ToldBy};
 
 use crate::one_hash_filter::may_contain;
 use searching::search::has_word;
+use tables::columns::Column;
+use tables::semi_joins::Side;
 
-// Whether some of the n rows at `start` has a value at a column: by search in the rows where it is the subject, else in their objects'
+// Whether some row of a side has a value at its column: by search in the rows where it is the subject, else in their objects'
 // sorted copy, which has a word for each row behind `first`. A value that the filter does not contain is not searched, nor one that is not
 // between the lowest and the highest; nor any of those between, where no two of them have one slot.
 pub fn has_partner(
@@ -20,14 +18,12 @@ pub fn has_partner(
     slots: &[u8],
     lowest: u32,
     highest: u32,
-    start: usize,
-    n: usize,
-    column: usize,
+    side: Side,
     value: u32,
 ) -> bool
-    requires searchable_by { SearchableBy w.now objects.now first start n column }
-    requires told_by { ToldBy (has_value w.now start n column) slots.now lowest highest }
-    ensures { result ≡ any (λ s. eqb value (at (column_of column) s)) (rows_in n (drop start w.now)) }
+    requires searchable_by { SearchableBy w.now objects.now first side }
+    requires told_by { ToldBy (has_side_value w.now side) slots.now lowest highest }
+    ensures { result ≡ has_side_value w.now side value }
 {
     if !may_contain(slots, value) || value < lowest || highest < value {
         return false;
@@ -36,8 +32,9 @@ pub fn has_partner(
     if slots.len() == 1024 && highest - lowest < 1024 {
         return true;
     }
-    if column == 0 {
-        return has_word(w, start, 2, n, value);
+    let n = side.rows;
+    match side.column {
+        Column::Subject => has_word(w, side.start, 2, n, value),
+        Column::Object => has_word(objects, (side.start - first) / 2, 1, n, value),
     }
-    has_word(objects, (start - first) / 2, 1, n, value)
 }

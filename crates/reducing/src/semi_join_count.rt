@@ -1,34 +1,23 @@
-ghost use Rattle.std.specs.Prelude.{◌≡◌, ◌<◌, ◌≤◌, ◌+◌, ◌*◌, length};
-ghost use Rattle.tables.specs.LeftRows.{left_of};
+ghost use Rattle.std.specs.Prelude.{◌≡◌, length};
+ghost use Rattle.tables.specs.SemiJoins.{Inside, left_of};
 
-use tables::operands::Operands;
+use tables::semi_joins::SemiJoin;
 
-// How many rows the semi-join of some operands leaves: those with a partner, a row whose value in the other column is the same.
-pub fn count_semi_join(w: &[u32], o: Operands) -> usize
-    requires { (o.start + 2 * o.rows ≤ length w.now) × (o.against + 2 * o.partners ≤ length w.now) × (o.own < 2) × (o.other < 2) }
-    ensures { result ≡ length (left_of w.now o) }
+// How many rows a semi-join leaves: those with a partner, a row whose value in the other column is the same.
+pub fn count_semi_join(w: &[u32], join: SemiJoin) -> usize
+    requires { Inside w.now join.own × Inside w.now join.partner }
+    ensures { result ≡ length (left_of w.now join) }
 {
-    let p = o.start;
-    let m = o.rows;
-    let own = o.own;
-    let q = o.against;
-    let n = o.partners;
-    let other = o.other;
+    let own = join.own.column.offset();
+    let other = join.partner.column.offset();
     let mut left: usize = 0;
-    let mut i: usize = 0;
-    'rows: while i < m {
-        // The place moves on first, so that a row that is continued is not met again.
-        let row = i;
-        i += 1;
-        let value = w[p + 2 * row + own];
-        let mut j: usize = 0;
-        while j < n {
-            let other_value = w[q + 2 * j + other];
-            if other_value == value {
+    'rows: for row in 0..join.own.rows {
+        let value = w[join.own.start + 2 * row + own];
+        for j in 0..join.partner.rows {
+            if w[join.partner.start + 2 * j + other] == value {
                 left += 1;
                 continue 'rows;
             }
-            j += 1;
         }
     }
     left

@@ -20,14 +20,11 @@ use Rattle.model.proofs.Order.{head_first_lem, by_head, by_tail, ascends_snoc}
 use Rattle.model.proofs.Growing.{above_snoc}
 use Rattle.model.proofs.Rows.{row_at, rows_at_lem, rows_words}
 
-module _ (test : ℕ → Bool) (w : List ℕ) (start : ℕ) where
-  -- one word more
-  pub word_more : (i : ℕ) → start + i < length w
-      → all test (take (i + 1) (drop start w)) ≡ (all test (take i (drop start w)) && test (get_or w (start + i) 0))
-  word_more i h =
-      let long = length-drop start w in
-      rw (add-one i, take-suc (drop start w) i 0 (omega arith), all_append, get_or-drop start w i 0, and-true) refl
+-- one word more
+pub word_more : (test : ℕ → Bool) (words : List ℕ) (i : ℕ) → i < length words → all test (take (i + 1) words) ≡ (all test (take i words) && test (get_or words i 0))
+word_more test words i h = rw (add-one i, take-suc words i 0 h, all_append, and-true) refl
 
+module _ (test : ℕ → Bool) (w : List ℕ) (start : ℕ) where
   -- where all pass, each does
   pub word_passes : (n j : ℕ) → start + n ≤ length w → all test (take n (drop start w)) ≡ true → j < n → test (get_or w (start + j) 0) ≡ true
   word_passes n j inside all_pass h =

@@ -7,8 +7,8 @@ pub fn all_at_most(w: &[u32], start: usize, n: usize, most: u32) -> bool
     ensures { result ≡ all (λ x. leb x most) (take n (drop start w.now)) }
 {
     let mut within = true;
-    for i in 0..n {
-        if most < w[start + i] {
+    for word in &w[start..start + n] {
+        if most < *word {
             within = false;
         }
     }

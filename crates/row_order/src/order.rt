@@ -30,11 +30,10 @@ fn rows_ascend(w: &[u32], start: usize, n: usize) -> bool
     requires { (0 < n) × (start + 2 * n ≤ length w.now) × (all is_term (take (2 * n) (drop start w.now)) ≡ true) }
     ensures { result ≡ ascends row_before (rows_in n (drop start w.now)) }
 {
+    let rows = &w[start..start + 2 * n];
     let mut ascending = true;
-    for i in 1..n {
-        let here = start + 2 * i;
-        let more = at_least(w[here - 1], w[here + 1]);
-        if w[here] < w[here - 2] + more {
+    for (row, next) in rows.chunks_exact(2).zip(rows[2..].chunks_exact(2)) {
+        if next[0] < row[0] + at_least(row[1], next[1]) {
             ascending = false;
         }
     }

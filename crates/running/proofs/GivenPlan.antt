@@ -9,8 +9,7 @@ use lib.Seq.{get_or-take, ext_get_or}
 use lib.Dec.{eqb}
 use borrow.Author.Tests.{eqb-true}
 use Rattle.model.specs.Lists.{concat_map}
-use Rattle.model.specs.Reader.{Reply, refused, gives}
-use Rattle.model.specs.Store.{Store, decoded}
+use Rattle.model.specs.Store.{Store}
 use Rattle.model.specs.Pattern.{Pattern, most_triple_patterns, is_accepted}
 use Rattle.model.specs.Plan.{Plan, is_proper}
 use Rattle.model.specs.PlanFile.{step_numbers, read_plan}
@@ -20,12 +19,12 @@ use Rattle.model.proofs.Booleans.{and_cases}
 use Rattle.model.proofs.Blocks.{Block, element_block, longer_block, block_at, equal_block, get_or_block, head_block}
 use Rattle.model.proofs.Patterns.{pattern_limit}
 use Rattle.model.proofs.PlanFile.{plan_file}
-use Rattle.positions.proofs.ReplyLaws.{reply_given}
+use Rattle.model.proofs.Results.{ok_gives}
+use Rattle.model.specs.declared.plan.Plan.{Plan as PlanNumbers}
+use Rattle.model.specs.declared.refusal.Refusal.{Refusal}
+use Rattle.std.specs.Prelude.{Result, Ok}
 use Rattle.plans.specs.Replies.{PlanReadAs}
-use Rattle.plans.specs.declared.plan_reader.PlanRead.{PlanRead}
 use Rattle.scanning.specs.PhysicalPlan.{steps_of}
-use Rattle.running.specs.Prepared.{StepsGiven, PreparedAs}
-use Rattle.running.specs.declared.preparing.Prepared.{Prepared}
 use Rattle.running.proofs.StepNumbers.{steps_length, step-at}
 
 -- ---- the steps of a plan's numbers
@@ -47,21 +46,12 @@ steps_back plan few = ext_get_or no_step (steps_of (plan_numbers plan)) plan (st
 -- ---- what was read
 
 module _ (store : Store) (pattern : Pattern) (accepted : is_accepted store.site pattern ≡ true) where
-  pub given_proper : (bytes : List ℕ) (r : PlanRead) → PlanReadAs (read_plan store pattern bytes) r → r.refusal ≡ 0
-      → is_proper store pattern (steps_of r.plan) ≡ true
+  pub given_proper : (bytes : List ℕ) {r : Result PlanNumbers Refusal} {p : PlanNumbers} → PlanReadAs (read_plan store pattern bytes) r → r ≡ Ok p
+      → is_proper store pattern (steps_of p) ≡ true
   unfolding is_proper
-  given_proper bytes r read h =
-      let (plan, given, numbers) = reply_given (λ plan. r.plan ≡ plan_numbers plan) (read_plan store pattern bytes) read h in
+  given_proper bytes {p = p} read h =
+      let (plan, given, numbers) = ok_gives (λ plan p. p ≡ plan_numbers plan) (read_plan store pattern bytes) read h in
       let few = pattern_limit store.site pattern accepted in
       let proper = (plan_file store pattern few).0 bytes plan given in
       let size = eqb-true (length plan) (length pattern) (and_cases (eqb (length plan) (length pattern)) _ proper).0 in
       rw (numbers, steps_back plan (omega arith)) proper
-
--- the same reply, by what follows of what was read
-pub prepared_as : (words steps bytes : List ℕ) (pattern : Pattern) (p : PlanRead) (r : Prepared) → PlanReadAs (read_plan (decoded words) pattern bytes) p
-    → r.refusal ≡ p.refusal → (p.refusal ≡ 0 → StepsGiven words steps pattern r) → PreparedAs words steps pattern (read_plan (decoded words) pattern bytes) r
-prepared_as words steps bytes pattern p r read same next = go (read_plan (decoded words) pattern bytes) read
-  where
-    go : (reply : Reply Plan) → PlanReadAs reply p → PreparedAs words steps pattern reply r
-    go (refused n) read = (same ∙ read.0, read.1)
-    go (gives plan) read = (same ∙ read.0, next read.0)

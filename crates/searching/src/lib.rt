@@ -1,4 +1,4 @@
 // Words that ascend, searched.
-#![tactic(auto)]
+#![tactic(auto, using(crate::proofs::WordSearch::word_inside))]
 
 pub mod search;

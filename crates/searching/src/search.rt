@@ -54,14 +54,12 @@ pub fn lower_bound_from(
     requires { SortedRun words.now base stride n × FirstBelow words.now base stride n value from }
     ensures { IsLowerBound words.now base stride n value result }
 {
-    let mut place = from;
-    while place < n {
+    for place in from..n {
         if value <= words[base + stride * place] {
             return place;
         }
-        place += 1;
     }
-    place
+    n
 }
 
 // How many of n ascending words are at most a value.

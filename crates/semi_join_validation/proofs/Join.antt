@@ -14,8 +14,13 @@ use Rattle.model.specs.Store.{Reduced, is_stored_table, stored_rows, table_words
 use Rattle.model.proofs.Booleans.{and_cases, and_make, not_both, to_false}
 use Rattle.stored_rows.proofs.ComparedRows.{as_many}
 use Rattle.semi_join_validation.specs.Joins.{stored_holds, not_stored_holds, join_holds}
-use Rattle.site_validation.specs.declared.entries.Extent.{Extent}
-use Rattle.site_validation.specs.declared.entries.Extent.TheVariants.{Ends, Invalid}
+use Rattle.std.specs.Prelude.{Option, Some, None}
+use Rattle.std.specs.Bool.{then_some}
+
+-- a value if a test passes, as the code's method gives it
+pub some_if : (b : Bool) (n : ℕ) → then_some b n ≡ cond b (Some n) None
+some_if true n = refl
+some_if false n = refl
 
 -- ---- rows that are stored
 
@@ -38,18 +43,21 @@ module _ (words : List ℕ) (rows : List Row) (start left here used : ℕ) where
   stored_hold x = and_make (eq-eqb _ _ x.begins) (and_make (le-leb _ _ x.room) x.same)
 
   -- the answer that is given by them
-  abbrev pub stored_end : Extent
-  stored_end = cond (stored_holds words rows start left here used) (Ends (here + 2 * left)) Invalid
+  abbrev pub stored_end : Option ℕ
+  stored_end = cond (stored_holds words rows start left here used) (Some (here + 2 * left)) None
 
   -- by equal rows, a start and a count
-  pub stored_same : {left' start' : ℕ} {rows' : List Row} → rows ≡ rows' → start ≡ start' → left ≡ left' → stored_end ≡ cond (stored_holds words rows' start' left' here used) (Ends (here + 2 * left')) Invalid
+  pub stored_same : {left' start' : ℕ} {rows' : List Row} → rows ≡ rows' → start ≡ start' → left ≡ left' → stored_end ≡ cond (stored_holds words rows' start' left' here used) (Some (here + 2 * left')) None
   stored_same a b c = rw (a, b, c) refl
 
-  pub stored_wrong : (Stored → ⊥) → Invalid ≡ stored_end
+  pub stored_wrong : (Stored → ⊥) → None ≡ stored_end
   stored_wrong h = rw (to_false _ (λ e. h (are_stored e))) refl
 
-  pub stored_at : Stored → Ends (here + 2 * left) ≡ stored_end
-  stored_at x = rw (stored_hold x) refl
+  -- where they begin there and have room, it is that of their comparison
+  pub stored_by : start ≡ here → here + 2 * left ≤ used → {r : Bool} → r ≡ same_words (take (2 * left) (drop here words)) (table_words rows)
+      → then_some r (here + 2 * left) ≡ stored_end
+  unfolding stored_holds
+  stored_by begins room {r} e = rw (eq-eqb start here begins, le-leb (here + 2 * left) used room, ← e) (some_if r (here + 2 * left))
 
 -- ---- a semi-join
 
@@ -80,13 +88,13 @@ module _ (t : ℕ) (words : List ℕ) (r : Reduced) (entry here used : ℕ) wher
   holds j = and_make (and_make (eq-eqb _ _ j.count) (eq-eqb _ _ j.begins)) (and_make (le-leb _ _ j.room) j.same)
 
   -- the answer that the test gives
-  abbrev pub end : Extent
-  end = cond (join_holds t words r entry here used) (Ends (here + 2 * length (stored_rows t r))) Invalid
+  abbrev pub end : Option ℕ
+  end = cond (join_holds t words r entry here used) (Some (here + 2 * length (stored_rows t r))) None
 
-  pub ends_wrong : (Held → ⊥) → Invalid ≡ end
+  pub ends_wrong : (Held → ⊥) → None ≡ end
   ends_wrong h = rw (to_false _ (λ e. h (held e))) refl
 
-  ends_at : {place : ℕ} → Held → place ≡ here + 2 * length (stored_rows t r) → Ends place ≡ end
+  ends_at : {place : ℕ} → Held → place ≡ here + 2 * length (stored_rows t r) → Some place ≡ end
   ends_at j e = rw (holds j, e) refl
 
   -- ---- rows that are stored, by the count that the entry gives
@@ -103,7 +111,7 @@ module _ (t : ℕ) (words : List ℕ) (r : Reduced) (entry here used : ℕ) wher
         let (known, all) = stored-all j.count in
         record { begins = rw known at j.begins; room = rw (j.count, ← all) j.room; same = rw (j.count, ← all) j.same }
 
-    at-end : Stored words r.rows start left here used → used ≤ length words → Ends (here + 2 * left) ≡ end
+    at-end : Stored words r.rows start left here used → used ≤ length words → Some (here + 2 * left) ≡ end
     at-end x inside =
         let count : left ≡ length r.rows = sym (as_many words here left (omega (arith, x.room)) r.rows x.same) in
         let (known, all) = stored-all count in
@@ -115,7 +123,7 @@ module _ (t : ℕ) (words : List ℕ) (r : Reduced) (entry here used : ℕ) wher
     pub ends_stored : used ≤ length words → stored_end words r.rows start left here used ≡ end
     ends_stored inside = go (stored_holds words r.rows start left here used) refl
       where
-        go : (b : Bool) → stored_holds words r.rows start left here used ≡ b → cond b (Ends (here + 2 * left)) Invalid ≡ end
+        go : (b : Bool) → stored_holds words r.rows start left here used ≡ b → cond b (Some (here + 2 * left)) None ≡ end
         go true e = at-end (are_stored _ _ _ _ _ _ e) inside
         go false e = ends_wrong (λ j. not_both (stored_hold _ _ _ _ _ _ (stored j)) e)
 
@@ -131,7 +139,7 @@ module _ (t : ℕ) (words : List ℕ) (r : Reduced) (entry here used : ℕ) wher
     pub not_stored : Held → start ≡ 0
     not_stored j = rw (stored_none j.count).0 at j.begins
 
-    pub ends_not_stored : left ≡ length r.rows → start ≡ 0 → here ≤ used → Ends here ≡ end
+    pub ends_not_stored : left ≡ length r.rows → start ≡ 0 → here ≤ used → Some here ≡ end
     ends_not_stored count begins inside =
         let (known, none) = stored_none count in
         ends_at
@@ -140,14 +148,14 @@ module _ (t : ℕ) (words : List ℕ) (r : Reduced) (entry here used : ℕ) wher
 
   -- the answer by a count of the rows that are left
   pub ends_counted : (n : ℕ) → n ≡ length r.rows → (left ≡ n → is_stored t n (length r.full) ≡ false) → here ≤ used
-      → cond (not_stored_holds left start n) (Ends here) Invalid ≡ end
+      → cond (not_stored_holds left start n) (Some here) None ≡ end
   unfolding not_stored_holds
   ends_counted n counted unstored inside = go (not_stored_holds left start n) refl
     where
       same_left : left ≡ n → is_stored t left (length r.full) ≡ false
       same_left e = rw e (unstored e)
 
-      go : (b : Bool) → not_stored_holds left start n ≡ b → cond b (Ends here) Invalid ≡ end
+      go : (b : Bool) → not_stored_holds left start n ≡ b → cond b (Some here) None ≡ end
       go true e =
           let (count, begins) = and_cases (eqb left n) (eqb start 0) e in
           let same = eqb-true left n count in

@@ -23,8 +23,7 @@ use Rattle.model.proofs.Setting.{part_block}
 use Rattle.tables.proofs.Images.{entries_inside}
 use Rattle.semi_join_validation.proofs.Join.{Held, held, holds}
 use Rattle.semi_join_validation.specs.Joins.{join_holds, Joined, joins_hold}
-use Rattle.site_validation.specs.declared.entries.Extent.{Extent}
-use Rattle.site_validation.specs.declared.entries.Extent.TheVariants.{Ends, Invalid}
+use Rattle.std.specs.Prelude.{Option, Some, None}
 
 -- ---- words one behind the other
 
@@ -42,11 +41,11 @@ equal_words {ys = ys} e = rw e (words_same ys)
 
 -- ---- the answer about a semi-join
 
-ends_at : (b : Bool) (end next : ℕ) → cond b (Ends end) Invalid ≡ Ends next → (b ≡ true) × (end ≡ next)
+ends_at : (b : Bool) (end next : ℕ) → cond b (Some end) None ≡ Some next → (b ≡ true) × (end ≡ next)
 ends_at true end next e = (refl, cc)
 ends_at false end next e = (cc, cc)
 
-ends_wrong : (b : Bool) (end : ℕ) → cond b (Ends end) Invalid ≡ Invalid → b ≡ false
+ends_wrong : (b : Bool) (end : ℕ) → cond b (Some end) None ≡ None → b ≡ false
 ends_wrong true end e = cc
 ends_wrong false end e = refl
 
@@ -96,11 +95,11 @@ module _ (t count : ℕ) (words : List ℕ) (used : ℕ) where
         among = rw (length_all_of o) h
 
         -- the answer of `semi_join_end`
-        abbrev answer : Extent
-        answer = cond (join_holds t words next entry here used) (Ends (here + 2 * length (stored_rows t next))) Invalid
+        abbrev answer : Option ℕ
+        answer = cond (join_holds t words next entry here used) (Some (here + 2 * length (stored_rows t next))) None
 
         -- if this one holds, the first x + 1 do
-        pub joined-more : {r : Extent} {end : ℕ} → r ≡ answer → r ≡ Ends end → Joined t count words used end (x + 1)
+        pub joined-more : {r : Option ℕ} {end : ℕ} → r ≡ answer → r ≡ Some end → Joined t count words used end (x + 1)
         joined-more {end = end} a e =
             let (held_here, same) = ends_at _ _ end (sym a ∙ e) in
             let one = held t words next entry here used held_here in
@@ -126,7 +125,7 @@ module _ (t count : ℕ) (words : List ℕ) (used : ℕ) where
             }
 
         -- if this one does not hold, not all do
-        pub one_fails : {r : Extent} → r ≡ answer → r ≡ Invalid → joins_hold t count words used ≡ false
+        pub one_fails : {r : Option ℕ} → r ≡ answer → r ≡ None → joins_hold t count words used ≡ false
         one_fails a e = to_false _ (λ whole. not_both (holds t words next entry here used (one (all_held whole))) (ends_wrong _ _ (sym a ∙ e)))
           where
             one : AllHeld → Held t words next entry here used

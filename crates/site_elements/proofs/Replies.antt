@@ -1,23 +1,19 @@
--- A reply as the code has it.
-use Prim.Native.Nat.{ℕ}
-use native.Mathlib.Omega.{arith}
-use mathlib.Core.Path.{◌≡◌, ap}
-use mathlib.Core.List.{List}
-use lib.ListN.{drop}
+-- What a result of the code says of the bytes: how a refusal is handed on, and what was read.
+use Rattle.std.specs.Prelude.{ℕ, ◌≡◌, List, drop, Result, Ok, Err}
+use mathlib.Core.Path.{ap, ◌∙◌}
 use Rattle.model.specs.Reader.{Reply, refused, gives}
-use Rattle.site_elements.specs.Reading.{TakenAs}
-use Rattle.site_elements.specs.declared.taken.Taken.{Taken}
-use Rattle.site_elements.specs.declared.taken.Taken.TheVariants.{At, Refused}
+use Rattle.model.specs.Results.{ReplyAs}
+use Rattle.model.specs.declared.refusal.Refusal.{Refusal}
+use Rattle.model.proofs.Results.{err_refused, ok_gives, refused_as}
+use Rattle.site_elements.specs.Reading.{ValueAs}
 
-module _ {A : Type 0} (Held : A → Type 0) (s : List ℕ) {r : Taken} where
-  pub was_refused : (reply : Reply (A × List ℕ)) {n : ℕ} → TakenAs reply Held s r → r ≡ Refused n → reply ≡ refused n
-  was_refused (refused m) t e = cc
-  was_refused (gives x) t e = cc
+-- a refusal that ends the whole too, handed on
+pub refusal_passed : {A A' B B' : Type 0} (Given : A → B → Type 0) (Given' : A' → B' → Type 0) {reply : Reply A} {reply' : Reply A'} {r : Result B Refusal} {e : Refusal}
+    → ReplyAs Given reply r → r ≡ Err e → ((m : ℕ) → reply ≡ refused m → reply' ≡ refused m) → ReplyAs Given' reply' (Err e)
+refusal_passed Given Given' {reply} {e = e} h is ends = refused_as Given' e (ends _ (err_refused Given reply h is))
 
-  pub was_taken : (reply : Reply (A × List ℕ)) {next : ℕ} → TakenAs reply Held s r → r ≡ At next
-      → (x : A) × (reply ≡ gives (x, drop next s)) × Held x
-  was_taken (refused m) t e = let z : ◌≡◌ {A = ℕ} 0 1 = cc in absurd (omega arith)
-  was_taken (gives x) {next} t e =
-      let p : t.0 ≡ next = cc in
-      let q : x.1 ≡ drop next s = rw p at t.2 in
-      (x.0, ap (λ (rest : List ℕ). gives (x.0, rest)) q, t.3)
+-- the value that was read
+pub value_given : {reply : Reply (ℕ × List ℕ)} (s : List ℕ) {r : Result (ℕ × ℕ) Refusal} {v next : ℕ} → ValueAs reply s r → r ≡ Ok (v, next) → reply ≡ gives (v, drop next s)
+value_given {reply} s h e =
+    let (x, given, same) = ok_gives _ reply h e in
+    given ∙ ap gives same

@@ -3,4 +3,4 @@
 
 pub mod declarations;
 pub mod table_rows;
-pub mod taken;
+pub mod term;

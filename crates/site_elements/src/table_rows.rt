@@ -1,44 +1,45 @@
 ghost use Rattle.std.specs.Prelude.{◌≡◌, ◌≤◌, ◌+◌, ◌*◌, [], length, drop};
 ghost use Rattle.std.proofs.lemmas.List.Edits.{sets};
 ghost use Rattle.model.specs.Reader.{repeated};
+ghost use Rattle.model.specs.Site.{row_before};
 ghost use Rattle.model.specs.SiteFile.{row};
 ghost use Rattle.model.specs.Store.{table_words};
-ghost use Rattle.site_elements.specs.Reading.{TakenAs};
+ghost use Rattle.site_elements.specs.Reading.{TakenAs, comes_after};
 
-use crate::taken::Taken;
-use numbers::number::{Number, read_number};
+use crate::term::read_term;
+use model::refusal::Refusal;
 use row_order::order::row_before;
-use tables::limits::MOST_TERM;
 
-// The n rows of a table, as words from `to` on.
-pub fn read_rows(s: &[u8], at: usize, n: usize, image: &mut [u32], to: usize) -> Taken
+// A row comes after the last one; any does where none is.
+fn comes_after(last: Option<(u32, u32)>, subject: u32, object: u32) -> bool
+    ensures { result ≡ comes_after row_before last (subject, object) }
+{
+    last.is_none_or(|row| row_before(row.0, row.1, subject, object))
+}
+
+// The n rows of a table, as words from `to` on. Gives the place after them.
+pub fn read_rows(
+    s: &[u8],
+    at: usize,
+    n: usize,
+    image: &mut [u32],
+    to: usize,
+) -> Result<usize, Refusal>
     requires { to + 2 * n ≤ length image.old }
     ensures { TakenAs (repeated row n [] (drop at s.now)) (λ rs. image.new ≡ sets image.old to (table_words rs)) s.now result }
 {
     let mut next = at;
-    let mut last_subject: u32 = 0;
-    let mut last_object: u32 = 0;
+    let mut last: Option<(u32, u32)> = None;
     for i in 0..n {
-        let Number::Value(subject, middle) = read_number(s, next) else {
-            return Taken::Refused(2);
-        };
-        if MOST_TERM < subject {
-            return Taken::Refused(6);
-        }
-        let Number::Value(object, after) = read_number(s, middle) else {
-            return Taken::Refused(2);
-        };
-        if MOST_TERM < object {
-            return Taken::Refused(6);
-        }
-        if 0 < i && !row_before(last_subject, last_object, subject, object) {
-            return Taken::Refused(7);
+        let (subject, middle) = read_term(s, next, Refusal::RowNotOfTerms)?;
+        let (object, after) = read_term(s, middle, Refusal::RowNotOfTerms)?;
+        if !comes_after(last, subject, object) {
+            return Err(Refusal::RowsNotAscending);
         }
         image[to + 2 * i] = subject;
         image[to + 2 * i + 1] = object;
-        last_subject = subject;
-        last_object = object;
+        last = Some((subject, object));
         next = after;
     }
-    Taken::At(next)
+    Ok(next)
 }

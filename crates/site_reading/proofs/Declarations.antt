@@ -19,14 +19,15 @@ use Rattle.model.proofs.Setting.{part_sets, sets_block}
 use Rattle.tables.specs.SiteWords.{declared_in, declared_rows, image_words, ImageHolds}
 use Rattle.tables.proofs.Declared.{length-declared_in}
 use Rattle.tables.proofs.Images.{rows_room}
-use Rattle.numbers.specs.NumberAt.{number_at}
 use Rattle.site_elements.specs.Reading.{TakenAs}
 use Rattle.site_reading.specs.Image.{DeclaredIn, SiteReadAs}
-use Rattle.numbers.specs.declared.number.Number.TheVariants.{Value}
-use Rattle.site_elements.specs.declared.taken.Taken.{Taken}
-use Rattle.site_elements.specs.declared.taken.Taken.TheVariants.{At, Refused}
-use Rattle.site_reading.specs.declared.site_reader.SiteRead.TheVariants.{Predicates, Refused as SiteRefused}
-use Rattle.site_elements.proofs.Replies.{was_refused, was_taken}
+use Rattle.std.specs.Prelude.{Result, Ok, Err}
+use Rattle.model.specs.Numbers.{number}
+use Rattle.model.specs.declared.refusal.Refusal.{Refusal}
+use Rattle.model.specs.declared.refusal.Refusal.TheVariants.{SiteNotEnded}
+use Rattle.model.proofs.Results.{refused_as, gives_as}
+use Rattle.site_elements.proofs.Replies.{refusal_passed}
+use Rattle.site_reading.proofs.Replies.{taken_given}
 use Rattle.site_elements.proofs.DeclarationReading.{length_declared, declarations_good}
 use Rattle.site_reading.proofs.Reading.{declarations_read}
 
@@ -81,9 +82,9 @@ module _ (s : List ℕ) (at count : ℕ) (image : List ℕ) (few : count ≤ mos
   abbrev EntriesWritten : List Declaration → Type 0
   EntriesWritten ds = after ≡ sets image 3 (vp_entries (rows_start count) ds)
 
-  module _ {r : Taken} (taken : TakenAs (repeated declaration count [] (drop at s)) EntriesWritten s r) {next : ℕ} (e : r ≡ At next) where
+  module _ {r : Result ℕ Refusal} (taken : TakenAs (repeated declaration count [] (drop at s)) EntriesWritten s r) {next : ℕ} (e : r ≡ Ok next) where
     declared : (ds : List Declaration) × (repeated declaration count [] (drop at s) ≡ gives (ds, drop next s)) × EntriesWritten ds
-    declared = was_taken EntriesWritten s (repeated declaration count [] (drop at s)) taken e
+    declared = taken_given EntriesWritten s (repeated declaration count [] (drop at s)) taken e
 
     pub declarations_in : DeclaredIn count after
     declarations_in =
@@ -91,7 +92,7 @@ module _ (s : List ℕ) (at count : ℕ) (image : List ℕ) (few : count ≤ mos
         let good = declarations_good count (drop at s) read in
         written_in count image few room ds good.0 after written good.1
 
-    pub declarations-behind : number_at s 0 ≡ Value count at → read_site s ≡ all_read 8 (tables (declared_in count (drop 3 after)) [] (drop next s))
+    pub declarations-behind : number 2 s ≡ gives (count, drop at s) → read_site s ≡ all_read 8 (tables (declared_in count (drop 3 after)) [] (drop next s))
     declarations-behind p =
         let (ds, read, written) = declared in
         rw (written_declared count image few room ds (declarations_good count (drop at s) read).0 after written) (declarations_read s p (le-leb _ _ few) read)
@@ -112,20 +113,20 @@ module _ (s : List ℕ) (at count : ℕ) (image : List ℕ) where
     abbrev RowsWritten : Site → Type 0
     RowsWritten site = after ≡ sets image (rows_start count) (vp_words site)
 
-    module _ {r : Taken} (taken : TakenAs reply RowsWritten s r) where
-      pub rest_refused : {n : ℕ} → r ≡ Refused n → SiteReadAs (all_read 8 reply) after (SiteRefused n)
-      rest_refused e = rw (was_refused RowsWritten s reply taken e) refl
+    module _ {r : Result ℕ Refusal} (taken : TakenAs reply RowsWritten s r) where
+      pub rest_refused : {e : Refusal} → r ≡ Err e → SiteReadAs (all_read 8 reply) after (Err e)
+      rest_refused is = refusal_passed _ _ taken is (λ m h. rw h refl)
 
-      module _ {end : ℕ} (e : r ≡ At end) where
+      module _ {end : ℕ} (e : r ≡ Ok end) where
         given : (site : Site) × (reply ≡ gives (site, drop end s)) × RowsWritten site
-        given = was_taken RowsWritten s reply taken e
+        given = taken_given RowsWritten s reply taken e
 
-        pub rest_longer : end < length s → SiteReadAs (all_read 8 reply) after (SiteRefused 8)
-        rest_longer h = rw (given.1, bytes_left s end h) refl
+        pub rest_longer : end < length s → SiteReadAs (all_read 8 reply) after (Err SiteNotEnded)
+        rest_longer h = refused_as _ SiteNotEnded (rw (given.1, bytes_left s end h) refl)
 
-        pub rest_read : count ≤ most_predicates → image_words ≤ length image → DeclaredIn count image → length s ≤ end → SiteReadAs (all_read 8 reply) after (Predicates count)
+        pub rest_read : count ≤ most_predicates → image_words ≤ length image → DeclaredIn count image → length s ≤ end → SiteReadAs (all_read 8 reply) after (Ok count)
         rest_read few room declared h =
             let (site, read, written) = given in
             let same = (all_tables_read (declared_in count (drop 3 image)) (drop at s) read).0 in
-            rw (read, no_byte_left s end h)
-            (ap Predicates (sym (site-size count (drop 3 image) site same)), site_held count image few room declared site same after written)
+            let whole : all_read 8 reply ≡ gives site = rw (read, no_byte_left s end h) refl in
+            gives_as _ whole (sym (site-size count (drop 3 image) site same), site_held count image few room declared site same after written)

@@ -12,9 +12,7 @@ use Rattle.model.specs.Reader.{refused, gives, after, ask, repeated, whole_file,
 use Rattle.model.specs.Site.{Row, Site, most_predicates, row_total}
 use Rattle.model.specs.SiteFile.{Declaration, declaration, row, tables_under, tables, site_file_under, read_site_under, read_site}
 use Rattle.model.proofs.Growing.{sum_snoc}
-use Rattle.numbers.specs.NumberAt.{number_at}
-use Rattle.numbers.specs.declared.number.Number.TheVariants.{Value, Bad}
-use Rattle.numbers.proofs.NumberReplies.{number_bad, number-value}
+use Rattle.model.specs.Numbers.{number}
 use Rattle.tables.specs.SiteWords.{declared_in, declared_rows}
 use Rattle.site_elements.proofs.RowReading.{rows-count}
 
@@ -75,22 +73,22 @@ module _ (image : List ℕ) (count : ℕ) (bytes : List ℕ) where
 
 -- ---- the site
 
-module _ (s : List ℕ) where
-  pub no_predicates : number_at s 0 ≡ Bad → read_site s ≡ refused 2
+module _ (bytes : List ℕ) where
+  pub no_predicates : {m : ℕ} → number 2 bytes ≡ refused m → read_site bytes ≡ refused m
   unfolding read_site_under whole_file site_file_under after
-  no_predicates e = rw (number_bad 2 s 0 e) refl
+  no_predicates e = rw e refl
 
-  module _ {p at : ℕ} (e : number_at s 0 ≡ Value p at) where
-    pub many_predicates : leb p most_predicates ≡ false → read_site s ≡ refused 3
+  module _ {p : ℕ} {rest : List ℕ} (e : number 2 bytes ≡ gives (p, rest)) where
+    pub many_predicates : leb p most_predicates ≡ false → read_site bytes ≡ refused 3
     unfolding read_site_under whole_file site_file_under after ask
-    many_predicates t = rw (number-value 2 s 0 e, t) refl
+    many_predicates t = rw (e, t) refl
 
     module _ (t : leb p most_predicates ≡ true) where
-      pub declarations_refused : {n : ℕ} → repeated declaration p [] (drop at s) ≡ refused n → read_site s ≡ refused n
+      pub declarations_refused : {m : ℕ} → repeated declaration p [] rest ≡ refused m → read_site bytes ≡ refused m
       unfolding read_site_under whole_file site_file_under after ask
-      declarations_refused q = rw (number-value 2 s 0 e, t, q) refl
+      declarations_refused q = rw (e, t, q) refl
 
-      pub declarations_read : {ds : List Declaration} {rest : List ℕ} → repeated declaration p [] (drop at s) ≡ gives (ds, rest)
-          → read_site s ≡ all_read 8 (tables ds [] rest)
+      pub declarations_read : {ds : List Declaration} {behind : List ℕ} → repeated declaration p [] rest ≡ gives (ds, behind)
+          → read_site bytes ≡ all_read 8 (tables ds [] behind)
       unfolding read_site_under whole_file site_file_under after ask
-      declarations_read q = rw (number-value 2 s 0 e, t, q) refl
+      declarations_read q = rw (e, t, q) refl

@@ -1,9 +1,9 @@
 -- What was read of a site's file, and what the questions of `build` lead to.
 use Prim.Native.Nat.{ℕ, ◌≤◌, ◌<◌}
 use native.Mathlib.Omega.{arith}
-use mathlib.Core.Path.{◌≡◌, refl, subst}
+use mathlib.Core.Path.{◌≡◌, refl, sym, ap, ◌∙◌, subst}
 use mathlib.Core.List.{List}
-use lib.ListN.{length}
+use lib.ListN.{length, drop}
 use borrow.Author.Tests.{le-leb, lt-leb}
 use Rattle.model.specs.Reader.{Reply, refused, gives}
 use Rattle.model.specs.Site.{Site}
@@ -14,28 +14,28 @@ use Rattle.model.specs.Calls.{outcome, over, either, unaltered, filled, build_un
 use Rattle.model.specs.declared.answer.Answer.TheVariants.{Built}
 use Rattle.model.proofs.SiteFile.{site_file_lem}
 use Rattle.site_reading.specs.Image.{SiteReadAs}
-use Rattle.tables.specs.SiteWords.{site_in, image_words, ImageHolds, ImageOf}
-use Rattle.site_reading.specs.declared.site_reader.SiteRead.{SiteRead}
-use Rattle.site_reading.specs.declared.site_reader.SiteRead.TheVariants.{Predicates, Refused}
+use Rattle.tables.specs.SiteWords.{site_in, image_words, ImageOf}
+use Rattle.model.specs.declared.refusal.Refusal.{Refusal}
+use Rattle.model.proofs.Results.{ok_gives}
+use Rattle.site_elements.specs.Reading.{TakenAs}
+use Rattle.std.specs.Prelude.{Result, Ok}
 use Rattle.tables.proofs.Images.{image_of, stored_start_limit}
 
-pub site_refused : (reply : Reply Site) (image : List ℕ) {r : SiteRead} {n : ℕ} → SiteReadAs reply image r → r ≡ Refused n → reply ≡ refused n
-site_refused (refused m) image h e = cc
-site_refused (gives site) image h e = cc h.0
-
-site_given : (reply : Reply Site) (image : List ℕ) {r : SiteRead} {count : ℕ} → SiteReadAs reply image r → r ≡ Predicates count
-    → (site : Site) × (reply ≡ gives site) × (length site ≡ count) × ImageHolds site image
-site_given (refused m) image h e = let never : ◌≡◌ {A = ℕ} 0 1 = cc in absurd (omega arith)
-site_given (gives site) image h e = (site, refl, cc h.0, h.1)
+-- how far the bytes were taken, and what memory holds then
+pub taken_given : {A : Type 0} (Held : A → Type 0) (s : List ℕ) (reply : Reply (A × List ℕ)) {r : Result ℕ Refusal} {next : ℕ} → TakenAs reply Held s r → r ≡ Ok next
+    → (x : A) × (reply ≡ gives (x, drop next s)) × Held x
+taken_given Held s reply h e =
+    let (x, given, (rest, held)) = ok_gives _ reply h e in
+    (x.0, given ∙ ap (λ (l : List ℕ). gives (x.0, l)) rest, held)
 
 -- the site that was read is the image's
-pub site_read : (bytes image : List ℕ) {r : SiteRead} {count : ℕ} → image_words ≤ length image → SiteReadAs (read_site bytes) image r → r ≡ Predicates count
+pub site_read : (bytes image : List ℕ) {r : Result ℕ Refusal} {count : ℕ} → image_words ≤ length image → SiteReadAs (read_site bytes) image r → r ≡ Ok count
     → ImageOf count image × (read_site bytes ≡ gives (site_in count image))
 site_read bytes image {count = count} long h e =
-    let (site, given, few, held) = site_given (read_site bytes) image h e in
+    let (site, given, (few, held)) = ok_gives _ (read_site bytes) h e in
     let yes-site = site_file_lem.0 bytes site given in
     let (o, same) = image_of site image yes-site (omega (arith, stored_start_limit site yes-site)) held in
-    subst (λ (k : ℕ). ImageOf k image × (read_site bytes ≡ gives (site_in k image))) few (o, rw same given)
+    subst (λ (k : ℕ). ImageOf k image × (read_site bytes ≡ gives (site_in k image))) (sym few) (o, rw same given)
 
 module _ (t : ℕ) (memory : List ℕ) where
   module _ (bytes : List ℕ) where

@@ -8,73 +8,52 @@ ghost use Rattle.tables.specs.SiteWords.{declared_in, declared_rows, image_words
 ghost use Rattle.site_elements.specs.Reading.{TakenAs};
 ghost use Rattle.site_reading.specs.Image.{DeclaredIn, SiteReadAs};
 
-use numbers::number::{Number, read_number};
+use model::refusal::Refusal;
+use numbers::number::read_number;
 use site_elements::declarations::read_declarations;
 use site_elements::table_rows::read_rows;
-use site_elements::taken::Taken;
 use tables::layout::{rows_start, table_entry};
 use tables::limits::MOST_PREDICATES;
 
-// The rows of the declared predicates, one table behind the other.
-fn read_tables(s: &[u8], at: usize, count: usize, image: &mut [u32]) -> Taken
+// The rows of the declared predicates, one table behind the other. Gives the place after them.
+fn read_tables(s: &[u8], at: usize, count: usize, image: &mut [u32]) -> Result<usize, Refusal>
     requires { (count ≤ most_predicates) × (image_words ≤ length image.old) × (declared_rows count (drop 3 image.old) ≤ most_rows) }
     ensures { TakenAs (tables (declared_in count (drop 3 image.old)) [] (drop at s.now)) (λ site. image.new ≡ sets image.old (rows_start count) (vp_words site)) s.now result }
 {
     let mut next = at;
     let mut to = rows_start(count);
     for i in 0..count {
-        let entry = table_entry(image, i);
-        let n = entry.rows;
-        match read_rows(s, next, n, image, to) {
-            Taken::Refused(number) => {
-                return Taken::Refused(number);
-            }
-            Taken::At(after) => {
-                next = after;
-            }
-        }
-        to += 2 * n;
+        let rows = table_entry(image, i).rows;
+        next = read_rows(s, next, rows, image, to)?;
+        to += 2 * rows;
     }
-    Taken::At(next)
+    Ok(next)
 }
 
-// Of a whole file: the count of its predicates, or the refusal's number.
-#[derive(Clone, Copy)]
-pub enum SiteRead {
-    Predicates(usize),
-    Refused(u32),
-}
-
-// Questions 2 to 8. The site's entries and rows stand in the image.
-pub fn read_site(s: &[u8], image: &mut [u32]) -> SiteRead
+// Questions 2 to 8. The site's entries and rows stand in the image; gives the count of its predicates.
+pub fn read_site(s: &[u8], image: &mut [u32]) -> Result<usize, Refusal>
     requires { image_words ≤ length image.old }
     ensures { SiteReadAs (read_site s.now) image.new result }
 {
-    let Number::Value(p, at) = read_number(s, 0) else {
-        return SiteRead::Refused(2);
+    let Some((predicates, at)) = read_number(s, 0) else {
+        return Err(Refusal::SiteNumberMalformed);
     };
-    let count = p as usize;
+    let count = predicates as usize;
     if MOST_PREDICATES < count {
-        return SiteRead::Refused(3);
+        return Err(Refusal::TooManyPredicates);
     }
-    match read_declarations(s, at, count, image) {
-        Taken::Refused(number) => SiteRead::Refused(number),
-        Taken::At(next) => read_rest(s, next, count, image),
-    }
+    let next = read_declarations(s, at, count, image)?;
+    read_rest(s, next, count, image)
 }
 
 // The tables of a site, and the file's end.
-fn read_rest(s: &[u8], at: usize, count: usize, image: &mut [u32]) -> SiteRead
+fn read_rest(s: &[u8], at: usize, count: usize, image: &mut [u32]) -> Result<usize, Refusal>
     requires { (count ≤ most_predicates) × (image_words ≤ length image.old) × DeclaredIn count image.old }
     ensures { SiteReadAs (all_read 8 (tables (declared_in count (drop 3 image.old)) [] (drop at s.now))) image.new result }
 {
-    match read_tables(s, at, count, image) {
-        Taken::Refused(number) => SiteRead::Refused(number),
-        Taken::At(end) => {
-            if end < s.len() {
-                return SiteRead::Refused(8);
-            }
-            SiteRead::Predicates(count)
-        }
+    let end = read_tables(s, at, count, image)?;
+    if end < s.len() {
+        return Err(Refusal::SiteNotEnded);
     }
+    Ok(count)
 }

@@ -5,9 +5,9 @@ use native.Mathlib.Numerals.{add-one}
 use native.Mathlib.Omega.{arith}
 use mathlib.Core.Path.{◌≡◌, refl, sym, ap, ◌∙◌}
 use mathlib.Core.Logic.{◌≢◌}
-use mathlib.Core.Bool.{true, false, ◌&&◌}
+use mathlib.Core.Bool.{Bool, true, false, ◌&&◌}
 use mathlib.Core.List.{List, [], ◌∷◌, ◌++◌, map, map-append}
-use lib.ListN.{length, get_or, take, drop, set, length-map, get_or-append}
+use lib.ListN.{length, get_or, take, drop, length-map, get_or-append}
 use lib.Seq.{length-take-le, get_or-take, get_or-drop, get_or-append-add}
 use lib.Dec.{ltb}
 use borrow.Author.Count.{below_more}
@@ -16,7 +16,7 @@ use Rattle.model.specs.SiteFile.{declarations}
 use Rattle.model.specs.Lists.{all, ascends, below}
 use Rattle.model.specs.Numbers.{is_term}
 use Rattle.model.specs.Site.{Row, row_before, rows_proper, Site, row_total, no_table, table_at}
-use Rattle.model.specs.Tables.{Column}
+use Rattle.model.specs.Tables.{Column, object}
 use Rattle.model.specs.Store.{rows_start, rows_in, vp_entries, vp_entry_at}
 use Rattle.model.proofs.Booleans.{and_cases, or_left, not_both, to_false}
 use Rattle.model.proofs.Membership.{at_place, from_all, filter_same}
@@ -25,15 +25,17 @@ use Rattle.model.proofs.Order.{rows}
 use Rattle.model.proofs.Sorting.{ascending_sorted}
 use Rattle.model.proofs.Partition.{proper}
 use Rattle.searching.specs.Search.{word_at, Ascending, SortedRun}
+use Rattle.tables.specs.Columns.{column_of}
 use Rattle.tables.specs.declared.layout.TableEntry.{TableEntry}
 use Rattle.tables.specs.Entries.{TableEntryAt}
 use Rattle.tables.specs.SiteWords.{site_in, ImageOf}
 use Rattle.model.proofs.Rows.{row_at, rows_at_lem}
 use Rattle.tables.proofs.Images.{table_in}
 use Rattle.statistics.specs.IndexedTables.{passing, SameValues, AllSearchable, ObjectsSorted, AllSorted, CopyOf}
+use Rattle.statistics.specs.declared.ranges.ValueRange.{ValueRange}
 use Rattle.statistics.specs.Compared.{are_compared}
 use Rattle.statistics.specs.Ranges.{range_at, apart}
-use Rattle.statistics.proofs.ColumnRanges.{apart-again}
+use Rattle.statistics.proofs.ColumnRanges.{again, apart-again}
 use Rattle.statistics.proofs.SortedObjects.{places-sorted}
 
 -- ---- where the tables start
@@ -210,12 +212,12 @@ module _ {count : ℕ} {w : List ℕ} (o : ImageOf count w) where
         }
 
     -- if they are reached; with them the third number of their range is written
-    pub sorted_more : (ranges : List ℕ) (whole : ℕ) → AllSorted count w objects ranges i
-        → ((p : ℕ) → p < count → (column : ℕ) → column < 2 → are_compared column 1 ≡ true → range_at p column ≢ range_at i 1 → apart ranges (range_at p column) (range_at i 1) ≡ false → CopyOf w (start_at i) (rows_at i) copy)
-        → AllSorted count w (put_back objects (part_at i) copy rest) (set ranges (range_at i 1 + 2) whole) (i + 1)
-    sorted_more ranges whole s c =
+    pub sorted_more : (ranges : List ValueRange) (whole : Bool) (fits : range_at (i + 1) 0 ≤ length ranges) → AllSorted count w objects ranges i
+        → ((p : ℕ) → p < count → (column : ℕ) → column < 2 → are_compared (column_of column) object ≡ true → range_at p column ≢ range_at i 1 → apart ranges (range_at p column) (range_at i 1) ≡ false → CopyOf w (start_at i) (rows_at i) copy)
+        → AllSorted count w (put_back objects (part_at i) copy rest) (again ranges i whole fits) (i + 1)
+    sorted_more ranges whole fits s c =
         below_more
-        (λ j. (p : ℕ) → p < count → (column : ℕ) → column < 2 → are_compared column 1 ≡ true → range_at p column ≢ range_at j 1 → apart (set ranges (range_at i 1 + 2) whole) (range_at p column) (range_at j 1) ≡ false
+        (λ j. (p : ℕ) → p < count → (column : ℕ) → column < 2 → are_compared (column_of column) object ≡ true → range_at p column ≢ range_at j 1 → apart (again ranges i whole fits) (range_at p column) (range_at j 1) ≡ false
         → ObjectsSorted w (put_back objects (part_at i) copy rest) (rows_start count) (start_at j) (rows_at j)) i
-        (λ j l p m column n compared other e. earlier_sorted j l (s j l p m column n compared other (sym (apart-again ranges i whole p column j) ∙ e)))
-        (λ p m column n compared other e. table-sorted (c p m column n compared other (sym (apart-again ranges i whole p column i) ∙ e)))
+        (λ j l p m column n compared other e. earlier_sorted j l (s j l p m column n compared other (sym (apart-again ranges i whole fits (range_at p column) (range_at j 1)) ∙ e)))
+        (λ p m column n compared other e. table-sorted (c p m column n compared other (sym (apart-again ranges i whole fits (range_at p column) (range_at i 1)) ∙ e)))

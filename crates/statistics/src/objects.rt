@@ -5,8 +5,9 @@ ghost use Rattle.statistics.specs.IndexedTables.{CopyOf, IndexedTables};
 ghost use Rattle.statistics.specs.Ranges.{is_gapless, AllMeasured};
 
 use crate::compared::are_compared;
-use crate::ranges::{is_gapless, objects_reached, range_at};
+use crate::ranges::{ValueRange, is_gapless, objects_reached, range_at};
 use rows::sorting::sort_rows;
+use tables::columns::Column;
 use tables::layout::{rows_start, table_entry};
 
 // Puts the objects of the n rows at `start` into the first n words, in ascending order.
@@ -20,31 +21,28 @@ fn copy_sorted(w: &[u32], start: usize, n: usize, copy: &mut [u32])
     sort_rows(copy, 1, n);
 }
 
-// The same where they are reached, and then 1 if no number between the first and the last is missing; else 0.
-fn copy_reached(w: &[u32], start: usize, n: usize, reached: bool, copy: &mut [u32]) -> u32
+// The same where they are reached, and then whether no number between the first and the last is missing.
+fn copy_reached(w: &[u32], start: usize, n: usize, reached: bool, copy: &mut [u32]) -> bool
     requires { (start + 2 * n ≤ length w.now) × (n ≤ length copy.old) }
     ensures copy_of { reached ≡ true → CopyOf w.now start n copy.new }
-    ensures reached_value { result ≡ 1 → (reached ≡ true) × (is_gapless copy.new 0 1 n ≡ true) }
+    ensures reached_value { result ≡ true → (reached ≡ true) × (is_gapless copy.new 0 1 n ≡ true) }
 {
     if !reached {
-        return 0;
+        return false;
     }
     copy_sorted(w, start, n, copy);
-    if is_gapless(copy, 0, 1, n) {
-        return 1;
-    }
-    0
+    is_gapless(copy, 0, 1, n)
 }
 
 // The objects of each table that other columns compared with them reach, in ascending order: a word for each row, in the order of the tables. With
 // them it is told of their range whether numbers are missing.
-pub fn copy_objects(w: &[u32], count: usize, ranges: &mut [u32; 96], objects: &mut [u32])
-    requires { ImageOf count w.now × (row_total (site_in count w.now) ≤ length objects.old) × AllMeasured w.now ranges.old count × (length ranges.old ≡ 96) }
+pub fn copy_objects(w: &[u32], count: usize, ranges: &mut [ValueRange; 32], objects: &mut [u32])
+    requires { ImageOf count w.now × (row_total (site_in count w.now) ≤ length objects.old) × AllMeasured w.now ranges.old count × (length ranges.old ≡ 32) }
     ensures { IndexedTables count w.now objects.new ranges.new }
 {
     let first = rows_start(count);
-    let by_subjects = are_compared(0, 1);
-    let by_objects = are_compared(1, 1);
+    let by_subjects = are_compared(Column::Subject, Column::Object);
+    let by_objects = are_compared(Column::Object, Column::Object);
     for i in 0..count {
         let table = table_entry(w, i);
         let n = table.rows;
@@ -52,6 +50,6 @@ pub fn copy_objects(w: &[u32], count: usize, ranges: &mut [u32; 96], objects: &m
         let to = (start - first) / 2;
         let reached = objects_reached(ranges, count, by_subjects, by_objects, i);
         let whole = copy_reached(w, start, n, reached, &mut objects[to..]);
-        ranges[range_at(i, 1) + 2] = whole;
+        ranges[range_at(i, Column::Object)].whole = whole;
     }
 }

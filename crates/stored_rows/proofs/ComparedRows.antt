@@ -4,7 +4,7 @@ use native.Mathlib.Omega.{arith}
 use native.Mathlib.Numerals.{add-one}
 use mathlib.Core.Path.{◌≡◌, refl, sym, ap, ◌∙◌}
 use mathlib.Core.Logic.{◌≢◌}
-use mathlib.Core.Bool.{true, false, not}
+use mathlib.Core.Bool.{Bool, true, false, not}
 use mathlib.Core.List.{List, [], ◌∷◌, ◌++◌}
 use lib.ListN.{length, get_or, take, drop, length-append, length-drop}
 use lib.Seq.{drop-cons, drop-drop, length-take-le, take-add}
@@ -18,7 +18,12 @@ use Rattle.model.proofs.Blocks.{Block, concat_map-append, equal_block, inner_blo
 use Rattle.model.proofs.StoreLayout.{length-table}
 use Rattle.model.proofs.Stores.{same-words, words_same}
 use Rattle.model.proofs.Setting.{part_block}
+use Rattle.searching.specs.Search.{has_word}
 use Rattle.stored_rows.specs.StoredRows.{stands_next}
+
+-- a row's subject is among the words
+abbrev pub is_among : List ℕ → ℕ → ℕ → ℕ → Row → Bool
+is_among words base stride n row = has_word words base stride n row.0
 
 -- the rows stand at `at`, where k rows have room, and `next` is the place after them
 pub record Compared (w : List ℕ) (at k : ℕ) (rows : List Row) (next : ℕ) : Type 0 where

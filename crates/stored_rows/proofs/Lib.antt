@@ -1,3 +1,4 @@
 -- Laws that the proofs of this crate cite.
 pub mod ComparedRows
 pub mod RowsBetween
+pub mod ColumnsOfSides

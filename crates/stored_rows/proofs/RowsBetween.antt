@@ -4,7 +4,7 @@ use Prim.Native.Nat.{ℕ, zero, suc, ◌+◌, ◌*◌, ◌-◌, ◌≤◌, ◌<�
 use native.Mathlib.Omega.{arith}
 use native.Mathlib.Numerals.{add-one}
 use mathlib.Core.Path.{◌≡◌, refl, sym, ap, ◌∙◌}
-use mathlib.Core.Bool.{Bool, false, ◌&&◌, and-true, and_assoc, and-false}
+use mathlib.Core.Bool.{Bool, true, false, ◌&&◌, and-true, and_assoc, and-false}
 use mathlib.Core.List.{List, [], ◌∷◌, ◌++◌}
 use lib.ListN.{length, get_or, take, drop, length-drop}
 use lib.Seq.{take-suc, get_or-drop, length-take-le}
@@ -122,7 +122,7 @@ module _ (w : List ℕ) (start m lowest highest : ℕ) (inside : start + 2 * m �
 -- ---- the rows that are left
 
 -- where each number between two is a value, the rows whose subject is between them are left
-pub between_left : (w : List ℕ) (rows : List Row) (q n other : ℕ) {lowest highest whole : ℕ} → RangeOf (has_value w q n other) lowest highest whole → whole ≡ 1
+pub between_left : (w : List ℕ) (rows : List Row) (q n other : ℕ) {lowest highest : ℕ} {whole : Bool} → RangeOf (has_value w q n other) lowest highest whole → whole ≡ true
     → filter (λ row. is_between lowest highest row.0) rows ≡ semi_join (kind_of_columns 0 other) rows (rows_in n (drop q w))
 unfolding semi_join
 between_left w rows q n other {lowest} {highest} range whole = filter_same _ _ rows (λ r m. same r.0)

@@ -37,8 +37,5 @@ pub fn compare_between(
     let before = guessed_lower_bound(w, start, 2, m, lowest);
     let first = start + 2 * before;
     let count = upper_bound(w, first, 2, m - before, highest);
-    if count != k {
-        return false;
-    }
-    same_words(w, at, first, 2 * k)
+    count == k && same_words(w, at, first, 2 * k)
 }

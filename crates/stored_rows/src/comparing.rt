@@ -1,9 +1,9 @@
 ghost use Rattle.std.specs.Prelude.{◌≡◌, ◌≢◌, ◌≤◌, ◌+◌, ◌*◌, length, take, drop};
 ghost use Rattle.model.specs.Lists.{filter, same_words};
 ghost use Rattle.model.specs.Store.{rows_in, table_words};
-ghost use Rattle.tables.specs.LeftRows.{left_of};
+ghost use Rattle.tables.specs.SemiJoins.{left_of};
 ghost use Rattle.searching.specs.Search.{SortedRun, has_word};
-ghost use Rattle.statistics.specs.Ranges.{has_value, ColumnRange};
+ghost use Rattle.statistics.specs.Ranges.{has_side_value, SideRange};
 ghost use Rattle.probes.specs.OneHashFilter.{ContainsAll, ToldBy};
 ghost use Rattle.probes.specs.Probed.{Probed};
 ghost use Rattle.stored_rows.specs.StoredRows.{stands_next};
@@ -12,7 +12,9 @@ use crate::between::compare_between;
 use probes::one_hash_filter::{insert_values, should_filter};
 use probes::values::has_partner;
 use probes::walking::walk_to;
-use tables::operands::Operands;
+use statistics::ranges::ValueRange;
+use tables::columns::Column;
+use tables::semi_joins::SemiJoin;
 
 // Whether a stored row is left at `next`, and is the one at `row`.
 fn stands_next(w: &[u32], next: usize, end: usize, row: usize) -> bool
@@ -34,30 +36,33 @@ fn compare_searched(
     w: &[u32],
     objects: &[u32],
     first: usize,
-    o: Operands,
+    join: SemiJoin,
     slots: &[u8],
     lowest: u32,
     highest: u32,
     at: usize,
     k: usize,
 ) -> bool
-    requires probed { Probed w.now objects.now first o × (at + 2 * k ≤ length w.now) }
-    requires told_by { ToldBy (has_value w.now o.against o.partners o.other) slots.now lowest highest }
-    ensures { result ≡ same_words (take (2 * k) (drop at w.now)) (table_words (left_of w.now o)) }
+    requires probed { Probed w.now objects.now first join × (at + 2 * k ≤ length w.now) }
+    requires told_by { ToldBy (has_side_value w.now join.partner) slots.now lowest highest }
+    ensures { result ≡ same_words (take (2 * k) (drop at w.now)) (table_words (left_of w.now join)) }
 {
-    let p = o.start;
-    let m = o.rows;
-    let own = o.own;
-    let q = o.against;
-    let n = o.partners;
-    let other = o.other;
+    let own = join.own;
+    let column = own.column.offset();
     let end = at + 2 * k;
     let mut next = at;
-    for i in 0..m {
-        let row = p + 2 * i;
-        let value = w[row + own];
+    for i in 0..own.rows {
+        let row = own.start + 2 * i;
+        let value = w[row + column];
         if has_partner(
-            w, objects, first, slots, lowest, highest, q, n, other, value,
+            w,
+            objects,
+            first,
+            slots,
+            lowest,
+            highest,
+            join.partner,
+            value,
         ) {
             if !stands_next(w, next, end, row) {
                 return false;
@@ -92,13 +97,15 @@ fn compare_walked(
     for i in 0..m {
         let row = start + 2 * i;
         let value = w[row];
-        let met = walk_to(words, base, stride, n, slots, place, value);
-        place = met.place;
-        if met.found {
-            if !stands_next(w, here, end, row) {
-                return false;
+        match walk_to(words, base, stride, n, slots, place, value) {
+            Ok(met) => {
+                if !stands_next(w, here, end, row) {
+                    return false;
+                }
+                here += 2;
+                place = met;
             }
-            here += 2;
+            Err(next) => place = next,
         }
     }
     here == end
@@ -109,57 +116,59 @@ fn compare_filtered(
     w: &[u32],
     objects: &[u32],
     first: usize,
-    o: Operands,
+    join: SemiJoin,
     slots: &[u8],
     lowest: u32,
     highest: u32,
     at: usize,
     k: usize,
 ) -> bool
-    requires probed { Probed w.now objects.now first o × (at + 2 * k ≤ length w.now) }
-    requires told_by { ToldBy (has_value w.now o.against o.partners o.other) slots.now lowest highest }
-    ensures { result ≡ same_words (take (2 * k) (drop at w.now)) (table_words (left_of w.now o)) }
+    requires probed { Probed w.now objects.now first join × (at + 2 * k ≤ length w.now) }
+    requires told_by { ToldBy (has_side_value w.now join.partner) slots.now lowest highest }
+    ensures { result ≡ same_words (take (2 * k) (drop at w.now)) (table_words (left_of w.now join)) }
 {
-    if o.own != 0 {
-        return compare_searched(w, objects, first, o, slots, lowest, highest, at, k);
+    let own = join.own;
+    if own.column == Column::Object {
+        return compare_searched(w, objects, first, join, slots, lowest, highest, at, k);
     }
-    if o.other == 0 {
-        return compare_walked(
-            w, o.start, o.rows, w, o.against, 2, o.partners, slots, at, k,
-        );
+    let start = own.start;
+    let m = own.rows;
+    let partner = join.partner;
+    let n = partner.rows;
+    match partner.column {
+        Column::Subject => compare_walked(w, start, m, w, partner.start, 2, n, slots, at, k),
+        Column::Object => {
+            let copy = (partner.start - first) / 2;
+            compare_walked(w, start, m, objects, copy, 1, n, slots, at, k)
+        }
     }
-    let copy = (o.against - first) / 2;
-    compare_walked(
-        w, o.start, o.rows, objects, copy, 1, o.partners, slots, at, k,
-    )
 }
 
-// The same, by the range of the partners' column, which stands at `place`: where each number of it is a value and the own column is the subject,
+// The same, by the range of the partners' column: where each number of it is a value and the own column is the subject,
 // no partner is looked for; else with a filter of the partners' values or without, and with the range.
 pub fn compare_partnered(
     w: &[u32],
     objects: &[u32],
     first: usize,
-    ranges: &[u32; 96],
-    place: usize,
-    o: Operands,
+    range: ValueRange,
+    join: SemiJoin,
     at: usize,
     k: usize,
 ) -> bool
-    requires probed { Probed w.now objects.now first o × (at + 2 * k ≤ length w.now) }
-    requires place_bound { (place + 3 ≤ 96) × ColumnRange w.now o.against o.partners o.other ranges.now place }
-    ensures { result ≡ same_words (take (2 * k) (drop at w.now)) (table_words (left_of w.now o)) }
+    requires probed { Probed w.now objects.now first join × (at + 2 * k ≤ length w.now) }
+    requires partner_range { SideRange w.now join.partner range }
+    ensures { result ≡ same_words (take (2 * k) (drop at w.now)) (table_words (left_of w.now join)) }
 {
-    let lowest = ranges[place];
-    let highest = ranges[place + 1];
-    if o.own == 0 && ranges[place + 2] == 1 {
-        return compare_between(w, o.start, o.rows, lowest, highest, at, k);
+    let lowest = range.lowest;
+    let highest = range.highest;
+    if join.own.column == Column::Subject && range.whole {
+        return compare_between(w, join.own.start, join.own.rows, lowest, highest, at, k);
     }
-    if !should_filter(ranges, place, o.partners) {
+    if !should_filter(range, join.partner.rows) {
         // Fewer slots than remainders: no filter.
-        return compare_filtered(w, objects, first, o, &[0u8; 1], lowest, highest, at, k);
+        return compare_filtered(w, objects, first, join, &[0u8; 1], lowest, highest, at, k);
     }
     let mut slots = [0u8; 1024];
-    insert_values(w, o.against, o.partners, o.other, &mut slots);
-    compare_filtered(w, objects, first, o, &slots, lowest, highest, at, k)
+    insert_values(w, join.partner, &mut slots);
+    compare_filtered(w, objects, first, join, &slots, lowest, highest, at, k)
 }

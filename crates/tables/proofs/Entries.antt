@@ -2,20 +2,17 @@
 use Prim.Native.Nat.{ℕ, zero, suc, ◌*◌, ◌/◌, ◌%◌, ◌≤◌, ◌<◌}
 use native.Mathlib.Nat.{mul-le-mul_right, mod-lt, div-add-mod', div-lt_iff_lt-mul}
 use native.Mathlib.Omega.{arith}
-use mathlib.Core.Path.{◌≡◌, refl, sym, ap, ◌∙◌}
+use mathlib.Core.Path.{◌≡◌, refl}
 use mathlib.Core.List.{List, [], ◌∷◌}
 use lib.ListN.{length}
 use Rattle.model.specs.Site.{Site, row_total, most_rows, table_at}
 use Rattle.model.specs.Tables.{kind_count, semi_join, is_stored}
-use Rattle.model.specs.Store.{Reduced, is_stored_table, semi_join_place, semi_join_entry_at}
+use Rattle.model.specs.Store.{is_stored_table, semi_join_place}
 use Rattle.model.proofs.Partition.{proper}
 use Rattle.model.proofs.Blocks.{head_block}
 use Rattle.model.proofs.StoreLayout.{left_at, semi_join_block}
 use Rattle.model.proofs.Membership.{filter-fewer}
-use Rattle.tables.specs.LeftRows.{left_rows}
-use Rattle.tables.specs.SiteWords.{site_in, ImageOf, no_reduced, reduced_at, OperandsOf, TablesOf}
-use Rattle.tables.specs.declared.operands.Operands.{Operands}
-use Rattle.tables.proofs.Images.{table_in}
+use Rattle.tables.specs.SiteWords.{site_in, ImageOf, no_reduced, reduced_at}
 
 -- ---- the tables and the kind
 
@@ -68,31 +65,6 @@ pub counted_stored : {site : Site} {x n m : ℕ} → Counted site x n m → (t :
 counted_stored c t = rw (c.left, c.full) refl
 
 -- ---- of an image
-
--- what the entries of the tables say is what the semi-join is of
-pub operands_of_lem : {count : ℕ} {image : List ℕ} → ImageOf count image → (p q k : ℕ) → p < count → q < count → k < kind_count
-    → (r : Operands) → r.entry ≡ semi_join_entry_at count p q k → r.own < 2 → r.other < 2 → TablesOf image p q k r
-    → OperandsOf (site_in count image) image (semi_join_place count p q k) r
-unfolding left_rows
-operands_of_lem {count} {image} o p q k h l m r entry own other tables =
-    let site = site_in count image in
-    let table = table_in o p h in
-    let partner = table_in o q l in
-    let among : p < length site = rw o.predicates h in
-    let partner_among : q < length site = rw o.predicates l in
-    let reduced : reduced_at site (semi_join_place count p q k) ≡ record { full = (table_at site p).rows; rows = left_at site p q k } =
-    rw o.predicates at (head_block (semi_join_block site p q k among partner_among m) no_reduced) in
-    record {
-      entry_place = entry ∙ rw o.predicates refl;
-      inside = rw (tables.start, tables.rows) table.inside;
-      partner_inside = rw (tables.against, tables.partners) partner.inside;
-      own_column = own;
-      partner_column = other;
-      full = tables.rows ∙ table.count ∙ sym (ap (λ (r : Reduced). length r.full) reduced);
-      left =
-          rw (tables.start, tables.rows, tables.against, tables.partners, table.back, partner.back, tables.own_kind, tables.partner_kind)
-          (sym (ap (λ (r : Reduced). r.rows) reduced));
-    }
 
 module _ {count : ℕ} {image : List ℕ} (o : ImageOf count image) (x : ℕ) (h : x < count * (count * kind_count)) where
   abbrev site : Site

@@ -4,7 +4,6 @@ use Rattle.model.specs.Site.{Row}
 use Rattle.model.specs.Tables.{semi_join, comparisons}
 use Rattle.model.specs.Store.{rows_in}
 use Rattle.tables.specs.Columns.{kind_of_columns}
-use Rattle.tables.specs.declared.operands.Operands.{Operands}
 
 -- of the first i rows at p, by the n rows at q
 unfoldable pub left_rows : List ℕ → ℕ → ℕ → ℕ → ℕ → ℕ → ℕ → List Row
@@ -12,10 +11,3 @@ left_rows w p i own q n other = semi_join (kind_of_columns own other) (rows_in i
 
 unfoldable pub compared_rows : List ℕ → ℕ → ℕ → ℕ → ℕ → ℕ → ℕ → ℕ
 compared_rows w p i own q n other = comparisons (kind_of_columns own other) (rows_in i (drop p w)) (rows_in n (drop q w))
-
--- of all rows of some operands
-abbrev pub left_of : List ℕ → Operands → List Row
-left_of w o = left_rows w o.start o.rows o.own o.against o.partners o.other
-
-abbrev pub comparisons_of : List ℕ → Operands → ℕ
-comparisons_of w o = compared_rows w o.start o.rows o.own o.against o.partners o.other

@@ -3,11 +3,8 @@ use Rattle.std.specs.Prelude.{ℕ, zero, suc, ◌+◌, ◌*◌, ◌≤◌, ◌<�
 use Rattle.model.specs.Lists.{same_words}
 use Rattle.model.specs.SiteFile.{Declaration, declared_total, declared_proper, declarations}
 use Rattle.model.specs.Site.{Site, is_site, most_predicates, most_rows}
-use Rattle.model.specs.Tables.{kind_at, kind_count}
+use Rattle.model.specs.Tables.{kind_count}
 use Rattle.model.specs.Store.{Reduced, semi_joins, rows_start, tables_in, stored_start, vp_entries, vp_words, vp_entry_at}
-use Rattle.tables.specs.Columns.{column_of}
-use Rattle.tables.specs.LeftRows.{left_of}
-use Rattle.tables.specs.declared.operands.Operands.{Operands}
 
 -- ---- the entries
 
@@ -53,25 +50,6 @@ no_reduced = record { full = []; rows = [] }
 
 abbrev pub reduced_at : Site → ℕ → Reduced
 reduced_at site x = get_or (semi_joins site) x no_reduced
-
--- the operands of the x-th semi-join: their tables stand in the image, and give what the semi-join leaves
-pub record OperandsOf (site : Site) (image : List ℕ) (x : ℕ) (r : Operands) : Type 0 where
-  pub entry_place : r.entry ≡ vp_entry_at (length site) + 2 * x
-  pub inside : r.start + 2 * r.rows ≤ length image
-  pub partner_inside : r.against + 2 * r.partners ≤ length image
-  pub own_column : r.own < 2
-  pub partner_column : r.other < 2
-  pub full : r.rows ≡ length (reduced_at site x).full
-  pub left : left_of image r ≡ (reduced_at site x).rows
-
--- the operands are the tables of predicates p and q, as their entries have them, and the columns of kind k
-pub record TablesOf (image : List ℕ) (p q k : ℕ) (r : Operands) : Type 0 where
-  pub start : r.start ≡ get_or image (vp_entry_at p + 2) 0
-  pub rows : r.rows ≡ get_or image (vp_entry_at p + 1) 0
-  pub against : r.against ≡ get_or image (vp_entry_at q + 2) 0
-  pub partners : r.partners ≡ get_or image (vp_entry_at q + 1) 0
-  pub own_kind : column_of r.own ≡ (kind_at k).0
-  pub partner_kind : column_of r.other ≡ (kind_at k).1
 
 -- the entries of an image have the row counts of the semi-joins
 pub record CountsIn (count : ℕ) (image : List ℕ) : Type 0 where

@@ -1,30 +1,66 @@
 ghost use Rattle.std.specs.Prelude.{◌≡◌, ◌<◌, ◌≤◌};
 ghost use Rattle.model.specs.Site.{most_rows};
-ghost use Rattle.model.specs.Tables.{is_stored, kind_at, kind_count, most_threshold};
-ghost use Rattle.tables.specs.Columns.{column_of};
+ghost use Rattle.model.specs.Tables.{is_stored, kind_count, most_threshold};
+ghost use Rattle.tables.specs.Columns.{column_as};
+ghost use Rattle.tables.specs.Kinds.{kind_as, kind_number};
+
+use crate::columns::Column;
 
 // The kinds of semi-join: SS, OS, SO, OO.
 pub const KINDS: usize = 4;
 
-// The column of the row in each kind, and that of its partner: a bit for each kind, from the lowest up, 0 for the subject, 1 for the object.
-const OWN_COLUMNS: usize = 0b1010;
-
-const PARTNER_COLUMNS: usize = 0b1100;
-
-// The column of the row in kind k.
-pub fn own_column(k: usize) -> usize
-    requires { k < kind_count }
-    ensures { (result < 2) × (column_of result ≡ (kind_at k).0) }
-{
-    (OWN_COLUMNS >> k) % 2
+// A kind of semi-join: the column of the row, and that of its partner.
+#[derive(Clone, Copy, Debug, PartialEq, Eq)]
+pub enum Kind {
+    SS,
+    OS,
+    SO,
+    OO,
 }
 
-// The column of its partner.
-pub fn partner_column(k: usize) -> usize
-    requires { k < kind_count }
-    ensures { (result < 2) × (column_of result ≡ (kind_at k).1) }
-{
-    (PARTNER_COLUMNS >> k) % 2
+impl Kind {
+    // In the order of their numbers.
+    pub const ALL: [Kind; KINDS] = [Kind::SS, Kind::OS, Kind::SO, Kind::OO];
+
+    // The column of the row.
+    pub fn own(self) -> Column
+        ensures { column_as result ≡ (kind_as self).0 }
+    {
+        match self {
+            Kind::SS | Kind::SO => Column::Subject,
+            Kind::OS | Kind::OO => Column::Object,
+        }
+    }
+
+    // The column of its partner.
+    pub fn partner(self) -> Column
+        ensures { column_as result ≡ (kind_as self).1 }
+    {
+        match self {
+            Kind::SS | Kind::OS => Column::Subject,
+            Kind::SO | Kind::OO => Column::Object,
+        }
+    }
+
+    // Its number in the layout of a store, and in a choice.
+    pub fn number(self) -> usize
+        ensures { result ≡ kind_number self }
+    {
+        self as usize
+    }
+
+    // The one with a number.
+    pub fn numbered(number: usize) -> Kind
+        requires { number < kind_count }
+        ensures { kind_number result ≡ number }
+    {
+        match number {
+            0 => Kind::SS,
+            1 => Kind::OS,
+            2 => Kind::SO,
+            _ => Kind::OO,
+        }
+    }
 }
 
 // A table of n rows, reduced from m, is stored at the threshold t: by the product, not by division.

@@ -4,8 +4,9 @@ ghost use Rattle.model.specs.Site.{most_predicates};
 ghost use Rattle.model.specs.Tables.{kind_count};
 ghost use Rattle.model.specs.Store.{vp_entry_at, semi_join_entry_at, rows_start};
 ghost use Rattle.tables.specs.Entries.{TableEntryAt, SemiJoinEntryAt};
+ghost use Rattle.tables.specs.Kinds.{kind_number};
 
-use crate::kinds::KINDS;
+use crate::kinds::{KINDS, Kind};
 use crate::limits::{MOST_PREDICATES, MOST_ROWS};
 
 // The layout of a store's words has its owner here: P, T and words used; an entry of three words for each predicate; an entry of two for
@@ -27,12 +28,12 @@ pub fn nth_semi_join_entry_at(count: usize, x: usize) -> usize
     vp_entry_at(count) + 2 * x
 }
 
-// The first word of the entry of kind k of the predicate at place i against the one at place j, of `count` predicates.
-pub fn semi_join_entry_at(count: usize, i: usize, j: usize, k: usize) -> usize
-    requires { (count ≤ most_predicates) × (i < count) × (j < count) × (k < kind_count) }
-    ensures { result ≡ semi_join_entry_at count i j k }
+// The first word of the entry of a kind of the predicate at place i against the one at place j, of `count` predicates.
+pub fn entry_of_kind(count: usize, i: usize, j: usize, kind: Kind) -> usize
+    requires { (count ≤ most_predicates) × (i < count) × (j < count) }
+    ensures { result ≡ semi_join_entry_at count i j (kind_number kind) }
 {
-    nth_semi_join_entry_at(count, (i * count + j) * KINDS + k)
+    nth_semi_join_entry_at(count, (i * count + j) * KINDS + kind.number())
 }
 
 // Where the rows begin: behind the entries of p predicates and of their semi-joins.

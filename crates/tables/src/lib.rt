@@ -1,8 +1,8 @@
 // The layout of a store and the operands of its semi-joins, in words.
 #![tactic(auto)]
 
-pub mod copying;
+pub mod columns;
 pub mod kinds;
 pub mod layout;
 pub mod limits;
-pub mod operands;
+pub mod semi_joins;

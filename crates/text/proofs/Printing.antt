@@ -6,8 +6,7 @@ use mathlib.Core.List.{List, [], append-nil}
 use lib.ListN.{length, take, length-append}
 use Rattle.model.specs.Text.{first_line, row_lines, printed, RowsFit}
 use Rattle.model.specs.declared.answer.Answer.{Answer}
-use Rattle.text.proofs.Writing.{written_none, written_put, front-taken}
-use Rattle.text.proofs.FirstLines.{Put}
+use Rattle.text.proofs.Writing.{Put, written_none, written_put, front-taken}
 use Rattle.text.proofs.RowLines.{printed-size}
 
 -- there is room for the first line and for the lines of rows

@@ -1,5 +1,5 @@
 -- The lines of rows, one behind the other, and how long they are at most.
-use Prim.Native.Nat.{ℕ, zero, suc, ◌+◌, ◌*◌, ◌≤◌}
+use Prim.Native.Nat.{ℕ, zero, suc, ◌+◌, ◌-◌, ◌*◌, ◌≤◌}
 use native.Mathlib.Nat.{add-zero, le_refl}
 use native.Mathlib.Numerals.{add-one}
 use native.Mathlib.Omega.{arith}
@@ -13,6 +13,7 @@ use Rattle.model.specs.declared.answer.Answer.TheVariants.{Rows, None, Built, Ye
 use Rattle.model.specs.declared.answer.Answer.TheVariants.{Plan as PlanAnswer}
 use Rattle.model.proofs.Below.{below_last}
 use Rattle.model.proofs.Blocks.{concat_map-append}
+use Rattle.text.proofs.Writing.{Put, Written, written_put}
 use Rattle.text.proofs.FirstLines.{first-length}
 use Rattle.text.proofs.Spaced.{spaced-length}
 
@@ -42,6 +43,21 @@ module _ (words : List ℕ) (v : ℕ) where
   pub lines_front : (k d : ℕ) → length (row_lines (Rows k v) words) ≤ length (row_lines (Rows (k + d) v) words)
   lines_front k zero = rw add-zero (le_refl _)
   lines_front k (suc d) = let e : k + suc d ≡ k + d + 1 = omega arith in rw e (omega (arith, lines_front k d, lines_longer (k + d)))
+
+  -- the row at hand, by where it starts and how many numbers it has
+  line_from : (k : ℕ) {start n : ℕ} → start ≡ k * v → n ≡ v → row_line (take n (drop start words)) ≡ line_at k
+  line_from k s e = rw (s, e)
+
+  pub row_room : (k count at room : ℕ) {start n next : ℕ} → start ≡ k * v → n ≡ v → k + 1 ≤ count → next ≡ at + length (row_lines (Rows k v) words)
+      → at + length (row_lines (Rows count v) words) ≤ room → next + length (row_line (take n (drop start words))) ≤ room
+  row_room k count at room s e more place fits =
+      let all : k + 1 + (count - (k + 1)) ≡ count = omega arith in
+      let front = rw all at (lines_front (k + 1) (count - (k + 1))) in
+      rw (line_from k s e) (omega (arith, front, lines_longer k))
+
+  pub row_put : (k : ℕ) {before out left : List ℕ} {at next end start n : ℕ} → Written before at (row_lines (Rows k v) words) out next → start ≡ k * v → n ≡ v
+      → Put out next (row_line (take n (drop start words))) end left → Written before at (row_lines (Rows (k + 1) v) words) left end
+  row_put k x s e p = rw (lines_last k) (written_put x (line_at k) (rw (line_from k s e) at p))
 
   lines_bound : (most : ℕ) → ((i : ℕ) → length (line_at i) ≤ most) → (k : ℕ) → length (row_lines (Rows k v) words) ≤ k * most
   unfolding row_lines

@@ -12,10 +12,11 @@ fn put_row_lines(words: &[u32], count: u64, width: u32, out: &mut [u8], at: usiz
     ensures value { result ≡ at + length (row_lines (Rows count width) words.now) }
     ensures out_after { out.new ≡ sets out.old at (row_lines (Rows count width) words.now) }
 {
-    let mut next = at;
     let wide = width as usize;
+    let mut next = at;
     for i in 0..count as usize {
-        next = put_row_line(words, i * wide, wide, out, next);
+        let start = i * wide;
+        next = put_row_line(&words[start..start + wide], out, next);
     }
     next
 }
@@ -29,11 +30,11 @@ pub fn put_answer(answer: Answer, words: &[u32], out: &mut [u8]) -> usize
     let first = put_first_line(answer, out, 0);
     match answer {
         Answer::Rows(count, width) => put_row_lines(words, count, width, out, first),
-        Answer::None => first,
-        Answer::Built(_) => first,
-        Answer::Plan => first,
-        Answer::Yes => first,
-        Answer::No => first,
-        Answer::Refused(_) => first,
+        Answer::None
+        | Answer::Built(_)
+        | Answer::Plan
+        | Answer::Yes
+        | Answer::No
+        | Answer::Refused(_) => first,
     }
 }

@@ -9,10 +9,10 @@ pub fn put_decimal(n: u64, out: &mut [u8], at: usize) -> usize
     ensures out_after { out.new ≡ sets out.old at (decimal n) }
 {
     if n < 10 {
-        out[at] = 48 + n as u8;
+        out[at] = b'0' + n as u8;
         return at + 1;
     }
     let next = put_decimal(n / 10, out, at);
-    out[next] = 48 + (n % 10) as u8;
+    out[next] = b'0' + (n % 10) as u8;
     next + 1
 }

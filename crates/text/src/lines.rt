@@ -1,4 +1,4 @@
-ghost use Rattle.std.specs.Prelude.{◌≡◌, ◌≤◌, ◌+◌, length, take, drop};
+ghost use Rattle.std.specs.Prelude.{◌≡◌, ◌≤◌, ◌+◌, length};
 ghost use Rattle.std.proofs.lemmas.List.Edits.{sets};
 ghost use Rattle.model.specs.Text.{first_line, row_line};
 
@@ -11,10 +11,9 @@ pub fn put_bytes(text: &[u8], out: &mut [u8], at: usize) -> usize
     ensures value { result ≡ at + length text.now }
     ensures out_after { out.new ≡ sets out.old at text.now }
 {
-    for i in 0..text.len() {
-        out[at + i] = text[i];
-    }
-    at + text.len()
+    let next = at + text.len();
+    out[at..next].copy_from_slice(text);
+    next
 }
 
 // Puts the first line of an answer at a place, and gives the place after it.
@@ -25,47 +24,34 @@ pub fn put_first_line(answer: Answer, out: &mut [u8], at: usize) -> usize
 {
     match answer {
         Answer::Rows(count, width) => {
-            let rows = [114u8, 111, 119, 115, 32];
-            let with_rows = put_bytes(&rows, out, at);
+            let with_rows = put_bytes(b"rows ", out, at);
             let with_count = put_decimal(count, out, with_rows);
-            let wide = [32u8, 119, 105, 100, 116, 104, 32];
-            let with_wide = put_bytes(&wide, out, with_count);
-            let end = put_decimal(width as u64, out, with_wide);
-            out[end] = 10;
-            end + 1
+            let with_width = put_bytes(b" width ", out, with_count);
+            let end = put_decimal(u64::from(width), out, with_width);
+            put_bytes(b"\n", out, end)
         }
-        Answer::None => {
-            let none = [110u8, 111, 110, 101, 10];
-            put_bytes(&none, out, at)
-        }
-        Answer::Built(_) => at,
-        Answer::Plan => at,
-        Answer::Yes => at,
-        Answer::No => at,
+        Answer::None => put_bytes(b"none\n", out, at),
         Answer::Refused(number) => {
-            let refused = [114u8, 101, 102, 117, 115, 101, 100, 32];
-            let with_refused = put_bytes(&refused, out, at);
-            let end = put_decimal(number as u64, out, with_refused);
-            out[end] = 10;
-            end + 1
+            let with_refused = put_bytes(b"refused ", out, at);
+            let end = put_decimal(u64::from(number), out, with_refused);
+            put_bytes(b"\n", out, end)
         }
+        Answer::Built(_) | Answer::Plan | Answer::Yes | Answer::No => at,
     }
 }
 
-// Puts the line of the row at place `from` of some words at a place, and gives the place after it.
-pub fn put_row_line(words: &[u32], from: usize, width: usize, out: &mut [u8], at: usize) -> usize
-    requires { (from + width ≤ length words.now) × (at + length (row_line (take width (drop from words.now))) ≤ length out.old) }
-    ensures value { result ≡ at + length (row_line (take width (drop from words.now))) }
-    ensures out_after { out.new ≡ sets out.old at (row_line (take width (drop from words.now))) }
+// Puts the line of a row at a place, and gives the place after it.
+pub fn put_row_line(row: &[u32], out: &mut [u8], at: usize) -> usize
+    requires { at + length (row_line row.now) ≤ length out.old }
+    ensures value { result ≡ at + length (row_line row.now) }
+    ensures out_after { out.new ≡ sets out.old at (row_line row.now) }
 {
     let mut next = at;
-    for v in 0..width {
+    for (v, number) in row.iter().enumerate() {
         if 0 < v {
-            out[next] = 32;
-            next += 1;
+            next = put_bytes(b" ", out, next);
         }
-        next = put_decimal(words[from + v] as u64, out, next);
+        next = put_decimal(u64::from(*number), out, next);
     }
-    out[next] = 10;
-    next + 1
+    put_bytes(b"\n", out, next)
 }

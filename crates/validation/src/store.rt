@@ -2,7 +2,7 @@ ghost use Rattle.std.specs.Prelude.{◌≡◌};
 ghost use Rattle.model.specs.Store.{decoded, is_store_of};
 
 use semi_join_validation::semi_joins::semi_joins_hold;
-use site_validation::entries::{Extent, rows_end, tables_proper};
+use site_validation::entries::{rows_end, tables_proper};
 use tables::layout::rows_start;
 use tables::limits::{MOST_PREDICATES, MOST_THRESHOLD};
 
@@ -10,25 +10,19 @@ use tables::limits::{MOST_PREDICATES, MOST_THRESHOLD};
 pub fn is_store(w: &[u32]) -> bool
     ensures { result ≡ is_store_of (decoded w.now) w.now }
 {
-    if w.len() < 3 {
+    let [count, t, used, ..] = w else {
+        return false;
+    };
+    let count = *count as usize;
+    let t = *t;
+    let used = *used as usize;
+    if MOST_PREDICATES < count || MOST_THRESHOLD < t {
         return false;
     }
-    let count = w[0] as usize;
-    let t = w[1];
-    let used = w[2] as usize;
-    if MOST_PREDICATES < count {
+    if w.len() < used || used < rows_start(count) {
         return false;
     }
-    if MOST_THRESHOLD < t {
-        return false;
-    }
-    if w.len() < used {
-        return false;
-    }
-    if used < rows_start(count) {
-        return false;
-    }
-    let Extent::Ends(first) = rows_end(w, count) else {
+    let Some(first) = rows_end(w, count) else {
         return false;
     };
     if used < first {

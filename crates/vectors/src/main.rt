@@ -10,90 +10,21 @@
 
 ghost use Rattle.std.specs.Prelude.{◌≤◌, length};
 
-mod building_cases;
-mod bytes;
+mod cases;
+mod lending;
 mod printing;
-mod row_cases;
-mod store_cases;
+mod trying;
 
-use building_cases::try_build;
-use bytes::{number_at, pair_at, wide, words_into};
-use row_cases::try_chain;
+use cases::split_case;
 use std::io;
 use std::io::{BufWriter, Read, Write};
-use store_cases::try_changed;
+use trying::try_case;
 
 const MOST_CASES: usize = 8000;
-
-const HEADER_BYTES: usize = 15;
 
 const CASE_BYTES: usize = 262144;
 
 const HELD_WORDS: usize = 4096;
-
-// Its kind, the numbers beside it, and the size of its first file.
-#[derive(Clone, Copy)]
-struct Case {
-    kind: usize,
-    number: u32,
-    words: usize,
-    place: usize,
-    lent: usize,
-    size: usize,
-}
-
-// The files of a case are split at the first one's size.
-fn try_case<W: Write>(out: &mut W, case: Case, files: &[u8], held: &mut [u32]) -> io::Result<()> {
-    let size = case.size;
-    if files.len() < size {
-        return Ok(());
-    }
-    let first = &files[..size];
-    let second = &files[size..];
-    if case.kind == 0 {
-        try_build(out, case.number, first, case.words)
-    } else if case.kind == 1 {
-        words_into(first, held);
-        Ok(())
-    } else if case.kind == 4 {
-        try_chain(out, first, second, case.lent)
-    } else {
-        try_changed(
-            out,
-            case.kind == 3,
-            case.number,
-            case.words,
-            case.place,
-            first,
-            second,
-            case.lent,
-            held,
-        )
-    }
-}
-
-// Tries the case at a place, and gives the place of the next.
-fn try_at<W: Write>(out: &mut W, cases: &[u8], at: usize, held: &mut [u32]) -> io::Result<usize> {
-    if CASE_BYTES <= at || cases.len() <= at {
-        return Ok(CASE_BYTES);
-    }
-    let start = at + HEADER_BYTES;
-    let size = pair_at(cases, at + 11);
-    let end = start + size + pair_at(cases, at + 13);
-    if cases.len() < end {
-        return Ok(CASE_BYTES);
-    }
-    let case = Case {
-        kind: wide(cases[at]),
-        number: number_at(cases, at + 1),
-        words: pair_at(cases, at + 5),
-        place: pair_at(cases, at + 7),
-        lent: pair_at(cases, at + 9),
-        size,
-    };
-    try_case(out, case, &cases[start..end], held)?;
-    Ok(end)
-}
 
 // Reads until the buffer is full, the input ends or a read fails, and gives how many bytes stand at its front.
 fn read_full<F: Read>(input: &mut F, buffer: &mut [u8]) -> usize
@@ -112,14 +43,19 @@ fn read_full<F: Read>(input: &mut F, buffer: &mut [u8]) -> usize
 fn main(rt: HostRuntime) -> io::Result<()> {
     let mut buffer = [0u8; CASE_BYTES];
     let size = read_full(&mut rt.reader(), &mut buffer);
+    let unread = CASE_BYTES - size;
     let mut held = [0u32; HELD_WORDS];
     let mut out = BufWriter::new(rt.alloc(), io::writer(&rt))?;
-    let mut at: usize = 0;
+    let mut rest = &buffer[..];
     for _ in 0..MOST_CASES {
-        if size <= at {
+        if rest.len() <= unread {
             break;
         }
-        at = try_at(&mut out, &buffer, at, &mut held)?;
+        let Some((case, after)) = split_case(rest) else {
+            break;
+        };
+        try_case(&mut out, &case, &mut held)?;
+        rest = after;
     }
     out.flush()
 }

@@ -1,11 +1,11 @@
 -- Each way out answers as the comparison of the rows does.
 use native.Mathlib.Nat.{le_trans}
 use native.Mathlib.Omega.{arith}
-use mathlib.Core.Path.{sym, ◌∙◌}
+use mathlib.Core.Path.{◌∙◌}
 use mathlib.Core.Logic.{⊎_elim}
 use borrow.Author.Tests.{ltb-false, le-ltb}
 use Rattle.model.proofs.Booleans.{not_both}
-use Rattle.semi_join_validation.proofs.Join.{stored_wrong, stored_at}
+use Rattle.semi_join_validation.proofs.Join.{stored_wrong, stored_by}
 use Rattle.semi_join_validation.proofs.semi_joins.stored_end.Goals as goal
 
 pub returns-then-start-here : goal.returns-then-start-here
@@ -13,11 +13,7 @@ returns-then-start-here c = stored_wrong _ _ _ _ _ _ (λ x. ⊎_elim (λ w. w.if
 
 pub compare_partnered-requires : goal.compare_partnered-requires
 compare_partnered-requires c = let pre = c.requires in
-    record { probed = (pre.probed.0, le_trans (ltb-false _ _ c.if-used-end.false-raw) pre.probed.3); place_bound = pre.place_bound }
-
-pub returns-then-compare_partnered : goal.returns-then-compare_partnered
-returns-then-compare_partnered c = stored_at _ _ _ _ _ _
-    (record { begins = omega arith; room = ltb-false _ _ c.if-used-end.false-raw; same = sym c.compare_partnered.ensures ∙ c.if-compare_partnered.true })
+    record { probed = (pre.probed.0, le_trans (ltb-false _ _ c.if-used-end.false-raw) pre.probed.3); partner_range = pre.partner_range }
 
 pub returns : goal.returns
-returns c = stored_wrong _ _ _ _ _ _ (λ x. not_both x.same (sym c.compare_partnered.ensures ∙ c.if-compare_partnered.false))
+returns c = c.then_some.ensures ∙ stored_by _ _ _ _ _ _ (omega arith) (ltb-false _ _ c.if-used-end.false-raw) c.compare_partnered.ensures

@@ -1,7 +1,9 @@
 -- The declarations are read one by one. The invariant: i were read, their entries are written, and their rows, the last term and where
 -- the next rows begin are at hand.
-use Prim.Native.Nat.{ℕ, ◌+◌, ◌-◌, ◌*◌, ◌<◌, ◌≤◌}
+use Prim.Native.Nat.{ℕ, ◌+◌, ◌-◌, ◌*◌, ◌≤◌}
 use mathlib.Core.Path.{◌≡◌}
+use Rattle.std.specs.Prelude.{Option}
+use Rattle.site_elements.specs.Reading.{comes_after}
 use mathlib.Core.List.{List, map}
 use lib.ListN.{length, drop}
 use lib.Seq.{sets}
@@ -15,7 +17,7 @@ use Rattle.model.proofs.Readers.{PartRead}
 use Rattle.site_elements.proofs.declarations.read_declarations.Given as goal
 
 -- what i declarations leave
-pub record DeclarationsRead (s : List ℕ) (at count : ℕ) (image₀ image : List ℕ) (next total here last i : ℕ) : Type 0 where
+pub record DeclarationsRead (s : List ℕ) (at count : ℕ) (image₀ image : List ℕ) (next total here : ℕ) (last : Option ℕ) (i : ℕ) : Type 0 where
   pub done : List Declaration
   pub many : length done ≡ i
   pub part : PartRead declaration count (drop at s) done (drop next s)
@@ -25,7 +27,7 @@ pub record DeclarationsRead (s : List ℕ) (at count : ℕ) (image₀ image : Li
   pub few : total ≤ most_rows
   pub start : here ≡ rows_start count + 2 * total
   pub room : rows_start count + 2 * most_rows ≤ image_words
-  pub above : 0 < i → (p : ℕ) → above_last ltb (map (λ d. d.0) done) p ≡ ltb last p
+  pub above : (p : ℕ) → above_last ltb (map (λ d. d.0) done) p ≡ comes_after ltb last p
 
 abbrev pub invariant-loop-i : goal.invariant-loop-i
 invariant-loop-i l =

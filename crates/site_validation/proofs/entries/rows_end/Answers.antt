@@ -1,10 +1,9 @@
--- The invariant of `rows_end`: the first i entries are proper, declare `total` rows, which end at `here`, and `last` is the term of the last.
+-- An entry that passes leaves the entries so far proper; one that does not, or whose rows start elsewhere, refuses all.
 use Prim.Native.Nat.{◌+◌, ◌-◌}
 use native.Mathlib.Omega.{arith}
-use mathlib.Core.Path.{◌≡◌, refl, sym, ◌∙◌}
+use mathlib.Core.Path.{◌≡◌, refl, ◌∙◌}
 use mathlib.Core.Logic.{⊎_elim, inl, inr}
 use borrow.Author.Rules.{rules}
-use borrow.Author.Tests.{leb-true, leb-false}
 use Rattle.model.proofs.Booleans.{to_false}
 use Rattle.site_validation.proofs.Declared.{not_term, not_ascending, too_many_rows, start_proper, entry-passes, stands-more, rows_more, all_passed}
 use Rattle.site_validation.proofs.entries.rows_end.Goals as goal
@@ -18,7 +17,7 @@ returns-then-term-gt-MOST_TERM c =
 
 pub returns-then-term-last : goal.returns-then-term-last
 returns-then-term-last c =
-    rw (not_ascending c.args.w.now _ _ c.loop-i-test.true (omega arith) (omega (arith, leb-true c.table_entry-table.result.term c.loop-i.last c.if-term-last.true-raw, c.table_entry-table.ensures.term, c.loop-i.invariant.6 (omega arith)))) refl
+    rw (not_ascending c.args.w.now _ _ c.loop-i-test.true (omega arith) (omega (arith, c.table_entry-table.ensures.term, c.loop-i.invariant.6 (omega arith)))) refl
 
 pub overflow_add-total : goal.overflow_add-total
 overflow_add-total c = omega (arith, c.table_entry-table.ensures.small_rows)
@@ -45,7 +44,7 @@ loop-i-preserved c =
       omega (arith, inv.2, read.rows, rows_more words 3 i),
       omega (arith, inv.3),
       entry-passes words c.args.count i c.loop-i-test.true inv.4 (omega (arith, read.term))
-          (⊎_elim (λ x. inr (omega arith, omega (arith, leb-false c.table_entry-table.result.term c.loop-i.last x.if-term-last.false-raw, read.term, inv.6 (omega arith)))) (λ x. inl (omega arith)) c.else-i-gt0.branch-raw)
+          (⊎_elim (λ x. inr (x.0, omega (arith, x.1, read.term, inv.6 x.0))) (λ x. inl (omega (arith, x))) c.else-i-gt0.either)
           (omega (arith, read.rows, inv.2)),
       stands-more words _ _ (omega arith) inv.5 (omega (arith, read.start, inv.2, inv.3)),
       λ _. rw here read.term,

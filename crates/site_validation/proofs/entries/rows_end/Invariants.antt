@@ -1,4 +1,4 @@
--- The invariant of `rows_end`: the first i entries are proper, declare `total` rows, which end at `here`, and `last` is the term of the last.
+-- The first i entries are proper, declare `total` rows, which end at `here`, and `last` is the term of the last.
 use Prim.Native.Nat.{◌+◌, ◌*◌, ◌-◌, ◌≤◌, ◌<◌}
 use mathlib.Core.Path.{◌≡◌}
 use mathlib.Core.Bool.{true}
@@ -14,6 +14,3 @@ abbrev pub invariant-loop-i : goal.invariant-loop-i
 invariant-loop-i l =
     (l.i ≤ l.count) × (l.total ≤ most_rows) × (l.total ≡ declared_rows l.i (drop 3 l.w)) × (l.here ≡ rows_start l.count + 2 * l.total)
     × (declared_proper (declared_in l.i (drop 3 l.w)) ≡ true) × EntriesStand l.w (rows_start l.count) l.i × (0 < l.i → l.last ≡ get_or l.w (vp_entry_at (l.i - 1)) 0)
-
-abbrev pub decreases-loop-i : goal.decreases-loop-i
-decreases-loop-i l = l.count - l.i

@@ -2,7 +2,7 @@
 use Prim.Native.Nat.{ℕ, ◌+◌, ◌*◌, ◌-◌, ◌≤◌}
 use native.Mathlib.Omega.{arith}
 use mathlib.Core.Path.{◌≡◌, refl, sym, ap, subst, ◌∙◌}
-use mathlib.Core.Bool.{true}
+use mathlib.Core.Bool.{true, false, false≢true}
 use mathlib.Core.Logic.{◌⊎◌, ⊎_elim, inl, inr}
 use lib.ListN.{get_or}
 use Rattle.searching.specs.Search.{word_at}
@@ -13,9 +13,9 @@ use Rattle.statistics.proofs.ranges.column_ranges.Goals as goal
 
 pub returns-then-n-eq0 : goal.returns-then-n-eq0
 returns-then-n-eq0 c = let a = c.args in
-    let none : (column : ℕ) → RangeOf (has_value a.w.now a.start a.n column) 1 0 0 =
-    λ column. subst (λ (n : ℕ). RangeOf (has_value a.w.now a.start n column) 1 0 0) (sym c.if-n-eq0.true) (no_values a.w.now a.start column) in
-    record { range_of = none 0; range_of_2 = none 1 }
+    let none : (column : ℕ) → RangeOf (has_value a.w.now a.start a.n column) 1 0 false =
+    λ column. subst (λ (n : ℕ). RangeOf (has_value a.w.now a.start n column) 1 0 false) (sym c.if-n-eq0.true) (no_values a.w.now a.start column) in
+    record { subjects = none 0; objects = none 1 }
 
 pub loop-i-init : goal.loop-i-init
 unfolding is_gapless
@@ -44,7 +44,7 @@ loop-i-preserved c =
       subject,
       (λ one.
           ⊎_elim
-          (λ w. absurd (omega (arith, w.whole-is)))
+          (λ w. absurd (false≢true (sym w.whole-is ∙ one)))
           (λ w. gapless_more a.w.now a.start 2 l.i l.invariant.0 (omega (arith, ascends, l.invariant.2, w.if-subject-last-gt1.false)) (l.invariant.3 (sym w.whole-is ∙ one)))
           c.if-subject-last-gt1.branch-raw),
       omega (arith, low.0, high.0),
@@ -55,6 +55,6 @@ pub returns : goal.returns
 returns c = let l = c.loop-i in
     let a = c.args in
     let all : l.i ≡ a.n = omega (arith, l.invariant.1) in
-    let whole : l.whole ≡ 1 → is_gapless a.w.now a.start 2 a.n ≡ true = λ e. rw all at (l.invariant.3 e) in
+    let whole : l.whole ≡ true → is_gapless a.w.now a.start 2 a.n ≡ true = λ e. rw all at (l.invariant.3 e) in
     let words = range a.w.now a.start 2 a.n l.whole c.requires.ascending (omega arith) whole in
-    let last : word_at a.w.now a.start 2 (a.n - 1) ≡ l.last = rw all at (sym l.invariant.2) in record { range_of = rw last at (range_same (same_answers (same_subjects _ _ _ c.requires.inside)) words); range_of_2 = subst (λ (n : ℕ). RangeOf (has_value a.w.now a.start n 1) l.lowest l.highest 0) all l.invariant.5 }
+    let last : word_at a.w.now a.start 2 (a.n - 1) ≡ l.last = rw all at (sym l.invariant.2) in record { subjects = rw last at (range_same (same_answers (same_subjects _ _ _ c.requires.inside)) words); objects = subst (λ (n : ℕ). RangeOf (has_value a.w.now a.start n 1) l.lowest l.highest false) all l.invariant.5 }

@@ -1,0 +1,25 @@
+-- The start in the entry of the semi-join.
+use native.Mathlib.Omega.{arith}
+use Rattle.catalog.proofs.Lookups.{front_inside, join_among, join_inside, join_rows-at}
+use Rattle.tables.proofs.KindsOfCode.{number_below, kind_at_number}
+use Rattle.catalog.proofs.lookup.semi_join_start.Goals as goal
+
+pub bounds-w-0 : goal.bounds-w-0
+bounds-w-0 c = omega (arith, front_inside _ c.requires.validated.0)
+
+pub entry_of_kind-requires : goal.entry_of_kind-requires
+entry_of_kind-requires c =
+    let (validated, hi, hj) = c.requires.validated in
+    let among = join_among _ validated _ hi _ _ hj (number_below c.args.kind) in
+    (among.0, among.1, among.2)
+
+pub semi_join_entry-requires : goal.semi_join_entry-requires
+semi_join_entry-requires c =
+    let (validated, hi, hj) = c.requires.validated in
+    rw c.entry_of_kind.ensures (join_inside _ validated _ hi _ _ hj (number_below c.args.kind))
+
+pub returns-clause-rows_at : goal.returns-clause-rows_at
+returns-clause-rows_at c =
+    let (validated, hi, hj) = c.requires.validated in
+    rw (c.semi_join_entry.ensures.start, c.entry_of_kind.ensures, ← (kind_at_number c.args.kind))
+    (join_rows-at _ validated _ hi _ _ hj (number_below c.args.kind) (rw (kind_at_number c.args.kind) c.requires.i_value))

@@ -1,9 +1,0 @@
--- As many bytes are put as the buffer holds at most.
-use Rattle.std.proofs.Common.{◌≤◌, ◌-◌, length}
-use Rattle.files.proofs.reading.read_bytes.Given as goal
-
-abbrev pub invariant-loop-size : goal.invariant-loop-size
-invariant-loop-size g l = l.size ≤ length l.buffer
-
-abbrev pub decreases-loop-size : goal.decreases-loop-size
-decreases-loop-size g l = length l.buffer - l.size
