@@ -1,4 +1,3 @@
 -- Laws that the proofs of this crate cite.
 pub mod MetNotes
 pub mod Picking
-pub mod Reducing

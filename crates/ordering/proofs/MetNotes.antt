@@ -1,17 +1,14 @@
 -- The cells of the variables that are met, and what the notes of a pick say of each place.
 use Prim.Native.Nat.{ℕ, ◌+◌, ◌<◌}
 use native.Mathlib.Omega.{arith}
-use native.Mathlib.Numerals.{add-one}
 use mathlib.Core.Path.{◌≡◌, refl, sym, ap, ◌∙◌}
-use mathlib.Core.Bool.{Bool, true, false, cond, ◌||◌, false≢true, or-false, or-true, or_assoc}
+use mathlib.Core.Bool.{Bool, true, false, ◌||◌, false≢true, or-false, or-true, or_assoc}
 use mathlib.Core.List.Memᴰ
 use mathlib.Core.List.{List, [], ◌∷◌, ◌++◌}
-use lib.ListN.{length, drop, get_or, get_or-replicate, set, length-set, replicate}
-use lib.Seq.{drop-cons, get_or-set_same, get_or-set_other}
+use lib.ListN.{length, get_or, get_or-replicate, set, length-set, replicate}
+use lib.Seq.{get_or-set_same, get_or-set_other}
 use lib.Dec.{eqb}
-use borrow.Author.Count.{below_more}
 use borrow.Author.Tests.{eqb-true, eqb-false}
-use Rattle.std.specs.Prelude.{filter as chain_filter}
 use Rattle.model.specs.Lists.{◌∈◌, filter, any, concat_map}
 use Rattle.model.specs.Site.{Site}
 use Rattle.model.specs.Pattern.{Pattern, most_variables, positions, is_accepted, no_triple_pattern, triple_at, same_variable}
@@ -20,14 +17,13 @@ use Rattle.model.specs.declared.pattern.Position.{Position}
 use Rattle.model.specs.declared.pattern.Position.TheVariants.{Term, Var}
 use Rattle.model.proofs.Booleans.{bool_ext}
 use Rattle.model.proofs.Membership.{at_place, any_append, any_same, filter_same, into_concat_map, from_concat_map}
+use Rattle.model.proofs.Setting.{set_more}
 use Rattle.model.proofs.Patterns.{width_limit, variable_below}
 use Rattle.model.proofs.MetVariables.{met_exactly, joined-met}
 use Rattle.positions.specs.Members.{member_at, pattern_in, PatternCells}
 use Rattle.positions.specs.declared.pattern.Pattern.{Pattern as Members}
 use Rattle.positions.proofs.MemberLaws.{pattern-length, triple_member}
 use Rattle.ordering.specs.Met.{HaveCells, met_by, counts_by, meeting, meeting_all, PlacesNoted}
-use Rattle.ordering.specs.Places.{place_at, untaken}
-use Rattle.ordering.specs.declared.place.Place.{Place}
 
 -- ---- cells
 
@@ -72,35 +68,19 @@ cell_all met [] v h = sym (or-false (get_or met v false))
 cell_all met (x ∷ xs) v h =
     cell_all (meeting met x) xs v (rw (size-met met x) h) ∙ rw (cell_met met x v h) (or_assoc (get_or met v false) (same_variable (Var v) x) (any (same_variable (Var v)) xs))
 
--- the next one is met
-pub next_met : (met : List Bool) (xs : List Position) (i : ℕ) → i < length xs
-    → meeting_all (meeting met (get_or xs i (Term 0))) (drop (i + 1) xs) ≡ meeting_all met (drop i xs)
-next_met met xs i h = rw (drop-cons xs i (Term 0) h, add-one) refl
-
 -- ---- the notes of a place
 
--- a field of one place more is right
-pub field_more : {A : Type 0} (field : Place → A) (f : ℕ → A) (places : List Place) {i : ℕ} {place : Place}
-    → ((k : ℕ) → k < i → field (place_at places k) ≡ f k) → i < length places → field place ≡ f i
-    → (k : ℕ) → k < i + 1 → field (place_at (set places i place) k) ≡ f k
-field_more field f places {i} {place} before inside e =
-    below_more (λ k. field (place_at (set places i place) k) ≡ f k) i
-    (λ k h. ap field (get_or-set_other places i k place (untaken 0 0) (omega arith)) ∙ before k h)
-    (ap field (get_or-set_same places i place (untaken 0 0) inside) ∙ e)
-
--- what a chain's filter gives
-pub filtered_same : {A : Type 0} (p : A → Bool) (l : List A) → chain_filter p l ≡ filter p l
-filtered_same p [] = refl
-filtered_same p (x ∷ xs) = ap (λ rest. cond (p x) (x ∷ rest) rest) (filtered_same p xs)
-
 module _ (pattern : Pattern) (met : List Bool) where
+  pub none_noted : (joined : List Bool) (terms : List ℕ) → PlacesNoted pattern 0 met joined terms
+  none_noted joined terms = record { joins = λ i h. absurd (omega arith); counts = λ i h. absurd (omega arith) }
+
   -- one place more
-  pub noted_more : {i : ℕ} (place : Place) {places : List Place} → PlacesNoted pattern i met places → i < length places
-      → place.joined ≡ any (met_by met) (positions (triple_at pattern i)) → place.terms ≡ length (filter (counts_by met) (positions (triple_at pattern i)))
-      → PlacesNoted pattern (i + 1) met (set places i place)
-  noted_more place {places} v h p q = record {
-    joins = field_more (λ s. s.joined) (λ a. any (met_by met) (positions (triple_at pattern a))) places v.joins h p;
-    counts = field_more (λ s. s.terms) (λ a. length (filter (counts_by met) (positions (triple_at pattern a)))) places v.counts h q;
+  pub noted_more : {i t : ℕ} {j : Bool} {joined : List Bool} {terms : List ℕ} → PlacesNoted pattern i met joined terms → i < length joined → i < length terms
+      → j ≡ any (met_by met) (positions (triple_at pattern i)) → t ≡ length (filter (counts_by met) (positions (triple_at pattern i)))
+      → PlacesNoted pattern (i + 1) met (set joined i j) (set terms i t)
+  noted_more {joined = joined} {terms} v h k p q = record {
+    joins = set_more (λ a. any (met_by met) (positions (triple_at pattern a))) joined false v.joins h p;
+    counts = set_more (λ a. length (filter (counts_by met) (positions (triple_at pattern a)))) terms 0 v.counts k q;
   }
 
 -- ---- the cells of the places taken
@@ -131,19 +111,19 @@ module _ (pattern : Pattern) where
         bool_ext false (is_met pattern taken (Term t)) (λ h. absurd (false≢true h)) (λ h. let (v, e, here) = (met_exactly pattern taken (Term t)).0 h in cc)
     met_by_lem (Var v) cells = notes.cell v (cells v (Memᴰ.head refl))
 
-    module _ {n : ℕ} {places : List Place} (cells : HaveCells (concat_map positions pattern)) (size : length pattern ≡ n)
-        (noted : PlacesNoted pattern n met places) where
+    module _ {n : ℕ} {joined : List Bool} {terms : List ℕ} (cells : HaveCells (concat_map positions pattern)) (size : length pattern ≡ n)
+        (noted : PlacesNoted pattern n met joined terms) where
       position_cells : (i : ℕ) → i < n → {x : Position} → x ∈ positions (triple_at pattern i) → HaveCells (x ∷ [])
       position_cells i h m = one_cell cells (into_concat_map positions (at_place pattern no_triple_pattern i (rw size h)) m)
 
       -- what is noted of a place is what the definitions say of it
-      pub noted_joined : (i : ℕ) → i < n → (place_at places i).joined ≡ is_joined pattern taken i
+      pub noted_joined : (i : ℕ) → i < n → get_or joined i false ≡ is_joined pattern taken i
       noted_joined i h =
           noted.joins i h
           ∙ any_same (met_by met) (is_met pattern taken) (positions (triple_at pattern i)) (λ x m. met_by_lem x (position_cells i h m))
           ∙ sym (joined-met pattern taken i)
 
-      pub noted_terms : (i : ℕ) → i < n → (place_at places i).terms ≡ term_count pattern taken i
+      pub noted_terms : (i : ℕ) → i < n → get_or terms i 0 ≡ term_count pattern taken i
       unfolding term_count
       noted_terms i h =
           noted.counts i h

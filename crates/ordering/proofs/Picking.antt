@@ -1,25 +1,34 @@
--- The next place of an order, as the better of two competitors at a time.
-use Prim.Native.Nat.{ℕ, ◌<◌}
+-- The next place of an order, found by one pass over the places.
+use Prim.Native.Nat.{ℕ, ◌+◌, ◌≤◌, ◌<◌}
+use native.Mathlib.Omega.{arith}
+use native.Mathlib.Numerals.{add-one}
 use mathlib.Core.Path.{◌≡◌, refl, sym, ap, ◌∙◌}
-use mathlib.Core.Bool.{Bool, true, false, cond, ◌&&◌, ◌||◌, not, or-false, or-true}
+use mathlib.Core.Bool.{Bool, true, false, cond, ◌&&◌, ◌||◌, not, or-false, or-true, not-not}
 use mathlib.Core.List.Memᴰ
-use mathlib.Core.List.{List, [], ◌∷◌}
+use mathlib.Core.List.{List, [], ◌∷◌, ◌++◌, append-nil}
+use lib.ListN.{get_or}
 use lib.Dec.{eqb}
-use Rattle.std.specs.List.{fold, reduce}
-use Rattle.std.specs.Option.{unwrap_or}
-use Rattle.model.specs.Lists.{◌∈◌, filter, any, below}
+use Rattle.model.specs.Lists.{◌∈◌, filter, any, is_empty, below}
 use Rattle.model.specs.Store.{Store}
 use Rattle.model.specs.Pattern.{Pattern}
 use Rattle.model.specs.Planner.{best, is_joined, term_count, chosen_rows, beats, or_else, competitors, best_of, pick}
 use Rattle.model.proofs.Booleans.{not_both}
-use Rattle.model.proofs.Membership.{from_filter, into_filter, filter-all, into_any, from_any, filter_same, filter-filter}
-use Rattle.model.proofs.Below.{from_below}
-use Rattle.ordering.specs.Places.{place_at, remaining_by, some_joined, competitors_by, beats_by, pick_by}
-use Rattle.ordering.specs.declared.place.Place.{Place}
+use Rattle.model.proofs.Membership.{from_filter, into_filter, filter-all, into_any, from_any, any_append, filter-append, filter_same, filter-filter}
+use Rattle.model.proofs.Below.{from_below, into_below, below_last}
+use Rattle.model.proofs.Best.{best_last}
+use Rattle.ordering.specs.Flags.{remaining_by, some_joined, competitors_by, beats_by, pick_by}
 
 -- ---- lists
 
+empty_last : {A : Type 0} (l : List A) (y : A) → is_empty (l ++ y ∷ []) ≡ false
+empty_last [] y = refl
+empty_last (x ∷ xs) y = refl
+
 module _ (p : ℕ → Bool) where
+  -- of one number more
+  filter_last : (i : ℕ) → filter p (below (i + 1)) ≡ filter p (below i) ++ cond (p i) (i ∷ []) []
+  filter_last i = rw add-one (ap (filter p) (below_last i) ∙ filter-append p (below i) (i ∷ []))
+
   -- those that pass where some do, else all
   narrowing : (l : List ℕ) → filter (λ x. p x || not (any p l)) l ≡ or_else (filter p l) l
   narrowing l = go (any p l) refl (filter p l) refl
@@ -35,52 +44,95 @@ module _ (p : ℕ → Bool) where
 
 -- ---- some remaining place is joined
 
--- one of those that pass passes another test too
-any_filtered : (p q : ℕ → Bool) (l : List ℕ) → any q (filter p l) ≡ any (λ x. p x && q x) l
-any_filtered p q [] = refl
-any_filtered p q (x ∷ xs) = go (p x) (any_filtered p q xs)
-  where
-    go : (b : Bool) → any q (filter p xs) ≡ any (λ y. p y && q y) xs → any q (cond b (x ∷ filter p xs) (filter p xs)) ≡ (b && q x || any (λ y. p y && q y) xs)
-    go true e = ap (λ c. q x || c) e
-    go false e = e
-
-pub remaining_joined : (n : ℕ) (places : List Place) → any (λ i. not (place_at places i).taken && (place_at places i).joined) (below n) ≡ some_joined n places
+-- one place more
+pub joined-more : (i : ℕ) (taken joined : List Bool)
+    → some_joined (i + 1) taken joined ≡ (some_joined i taken joined || (not (get_or taken i false) && get_or joined i false))
 unfolding some_joined
-remaining_joined n places = sym (any_filtered (λ i. not (place_at places i).taken) (λ i. (place_at places i).joined) (below n))
+joined-more i taken joined =
+    rw (filter_last (λ k. not (get_or taken k false)) i, any_append (λ k. get_or joined k false))
+    (ap (λ b. some_joined i taken joined || b) (go (not (get_or taken i false))))
+  where
+    go : (b : Bool) → any (λ k. get_or joined k false) (cond b (i ∷ []) []) ≡ (b && get_or joined i false)
+    go true = or-false (get_or joined i false)
+    go false = refl
+
+-- such a place was found
+pub joined_found : (n i : ℕ) (taken joined : List Bool) → i < n → not (get_or taken i false) ≡ true → get_or joined i false ≡ true
+    → some_joined n taken joined ≡ true
+unfolding some_joined
+joined_found n i taken joined h e f =
+    into_any (λ k. get_or joined k false) (into_filter (λ k. not (get_or taken k false)) (into_below n h) e) f
+
+-- ---- the best competitor so far
+
+-- place i competes: a remaining one that is joined, or any remaining one unless the choice is narrowed to those
+abbrev pub competes_by : Bool → List Bool → List Bool → ℕ → Bool
+competes_by narrowed taken joined i = not (get_or taken i false) && (get_or joined i false || not narrowed)
+
+abbrev pub beats_at : List ℕ → List ℕ → ℕ → ℕ → Bool
+beats_at terms rows i j = beats_by (get_or terms i 0) (get_or rows i 0) (get_or terms j 0) (get_or rows j 0)
+
+-- of the places below i that pass the test: whether there is one, and the first that none beats
+pub record BestBelow (test : ℕ → Bool) (beats : ℕ → ℕ → Bool) (found : Bool) (best i : ℕ) : Type 0 where
+  pub inside : best ≤ i
+  pub some_found : found ≡ not (is_empty (filter test (below i)))
+  pub first : best ≡ best_of beats (filter test (below i))
+
+-- one more behind a list
+best_of_last : (beats : ℕ → ℕ → Bool) (l : List ℕ) (y : ℕ)
+    → best_of beats (l ++ y ∷ []) ≡ cond (is_empty l || beats y (best_of beats l)) y (best_of beats l)
+best_of_last beats [] y = refl
+best_of_last beats (x ∷ xs) y = best_last beats x xs y
+
+module _ (test : ℕ → Bool) (beats : ℕ → ℕ → Bool) where
+  pub none_below : BestBelow test beats false 0 0
+  none_below = record { inside = omega arith; some_found = refl; first = refl }
+
+  module _ {found : Bool} {best i : ℕ} (b : BestBelow test beats found best i) where
+    -- place i does not compete
+    pub passed_over : test i ≡ false → BestBelow test beats found best (i + 1)
+    passed_over e = record {
+      inside = let h = b.inside in omega arith;
+      some_found = b.some_found ∙ ap (λ l. not (is_empty l)) same;
+      first = b.first ∙ ap (best_of beats) same;
+    }
+      where
+        same : filter test (below i) ≡ filter test (below (i + 1))
+        same = rw (filter_last test i, e, append-nil) refl
+
+    competitor : test i ≡ true → filter test (below (i + 1)) ≡ filter test (below i) ++ i ∷ []
+    competitor e = rw (filter_last test i, e) refl
+
+    found_one : test i ≡ true → true ≡ not (is_empty (filter test (below (i + 1))))
+    found_one e = rw (competitor e, empty_last) refl
+
+    best_of_both : test i ≡ true → cond (not found || beats i best) i best ≡ best_of beats (filter test (below (i + 1)))
+    best_of_both e = rw (competitor e, best_of_last beats (filter test (below i)) i, b.some_found, b.first, not-not) refl
+
+    -- place i is the first that competes, or beats the best of those before it
+    pub better : test i ≡ true → (not found || beats i best) ≡ true → BestBelow test beats true i (i + 1)
+    better e h = record { inside = omega arith; some_found = found_one e; first = rw h at (best_of_both e) }
+
+    -- place i competes, and does not beat the best of those before it
+    pub no_better : test i ≡ true → found ≡ true → beats i best ≡ false → BestBelow test beats found best (i + 1)
+    no_better e f h = record {
+      inside = let g = b.inside in omega arith;
+      some_found = f ∙ found_one e;
+      first = rw (f, h) at (best_of_both e);
+    }
 
 -- ---- the pick
 
--- place i competes: a remaining one that is joined, or any remaining one unless the choice is narrowed to those
-abbrev pub competes_by : Bool → List Place → ℕ → Bool
-competes_by narrowed places i = not (place_at places i).taken && ((place_at places i).joined || not narrowed)
-
-abbrev pub beats_at : List Place → ℕ → ℕ → Bool
-beats_at places i j = beats_by (place_at places i) (place_at places j)
-
--- the better of two; on a tie the one that came first
-abbrev pub better_of : (ℕ → ℕ → Bool) → ℕ → ℕ → ℕ
-better_of beats a b = cond (beats b a) b a
-
-best_folded : (beats : ℕ → ℕ → Bool) (x : ℕ) (xs : List ℕ) → fold (better_of beats) x xs ≡ best beats x xs
-best_folded beats x [] = refl
-best_folded beats x (y ∷ ys) = best_folded beats (better_of beats x y) ys
-
-best_reduced : (beats : ℕ → ℕ → Bool) (l : List ℕ) → unwrap_or (reduce (better_of beats) l) 0 ≡ best_of beats l
-best_reduced beats [] = refl
-best_reduced beats (x ∷ xs) = best_folded beats x xs
-
 -- the best of all competitors is the pick
-pub best_picked : (n : ℕ) (places : List Place) {narrowed : Bool} → narrowed ≡ some_joined n places
-    → unwrap_or (reduce (better_of (beats_at places)) (filter (competes_by narrowed places) (below n))) 0 ≡ pick_by n places
+pub best_picked : (n : ℕ) (taken joined : List Bool) (terms rows : List ℕ) {found : Bool} {best : ℕ}
+    → BestBelow (competes_by (some_joined n taken joined) taken joined) (beats_at terms rows) found best n → best ≡ pick_by n taken joined terms rows
 unfolding some_joined pick_by
-best_picked n places {narrowed} is_narrowed =
-    best_reduced (beats_at places) (filter (competes_by narrowed places) (below n))
-    ∙ ap (best_of (beats_at places)) (ap (λ b. filter (competes_by b places) (below n)) is_narrowed ∙ same)
+best_picked n taken joined terms rows b = b.first ∙ ap (best_of (beats_at terms rows)) same
   where
-    same : filter (competes_by (some_joined n places) places) (below n) ≡ competitors_by n places
+    same : filter (competes_by (some_joined n taken joined) taken joined) (below n) ≡ competitors_by n taken joined
     same =
-        sym (filter-filter (λ i. not (place_at places i).taken) (λ i. (place_at places i).joined || not (some_joined n places)) (below n))
-        ∙ narrowing (λ i. (place_at places i).joined) (remaining_by n places)
+        sym (filter-filter (λ i. not (get_or taken i false)) (λ i. get_or joined i false || not (some_joined n taken joined)) (below n))
+        ∙ narrowing (λ i. get_or joined i false) (remaining_by n taken)
 
 -- ---- the planner's pick
 
@@ -113,20 +165,17 @@ from_or_else p {a} l = go (filter p l) (λ m. (from_filter p l m).0)
     go [] h m = m
     go (x ∷ xs) h m = h m
 
--- what is known of n places is what the definitions say of them
-pub record PlacesKnown (store : Store) (pattern : Pattern) (takenPlaces : List ℕ) (n : ℕ) (places : List Place) : Type 0 where
-  pub is_taken : (i : ℕ) → i < n → (place_at places i).taken ≡ any (eqb i) takenPlaces
-  pub joins : (i : ℕ) → i < n → (place_at places i).joined ≡ is_joined pattern takenPlaces i
-  pub row_count : (i : ℕ) → i < n → (place_at places i).rows ≡ chosen_rows store pattern i
-  pub counts : (i : ℕ) → i < n → (place_at places i).terms ≡ term_count pattern takenPlaces i
-
--- then the pick is the planner's
-pub picked : (store : Store) (pattern : Pattern) (n : ℕ) (takenPlaces : List ℕ) (places : List Place) → PlacesKnown store pattern takenPlaces n places
-    → pick_by n places ≡ pick store pattern takenPlaces (filter (λ i. not (any (eqb i) takenPlaces)) (below n))
+-- where the flags and the numbers noted of each place are right, the pick is the planner's
+pub picked : (store : Store) (pattern : Pattern) (n : ℕ) (takenPlaces : List ℕ) (taken joined : List Bool) (terms rows : List ℕ)
+    → ((i : ℕ) → i < n → get_or taken i false ≡ any (eqb i) takenPlaces)
+    → ((i : ℕ) → i < n → get_or joined i false ≡ is_joined pattern takenPlaces i)
+    → ((i : ℕ) → i < n → get_or rows i 0 ≡ chosen_rows store pattern i)
+    → ((i : ℕ) → i < n → get_or terms i 0 ≡ term_count pattern takenPlaces i)
+    → pick_by n taken joined terms rows ≡ pick store pattern takenPlaces (filter (λ i. not (any (eqb i) takenPlaces)) (below n))
 unfolding pick_by pick competitors beats
-picked store pattern n takenPlaces places known =
+picked store pattern n takenPlaces taken joined terms rows is_taken joins isRows isTerms =
     rw (same_remaining, same-joined)
-    (best_of-same (beats_at places) (beats store pattern takenPlaces) competing (λ i j k l. same-beats i j (competitor k) (competitor l)))
+    (best_of-same (beats_at terms rows) (beats store pattern takenPlaces) competing (λ i j k l. same-beats i j (competitor k) (competitor l)))
   where
     remaining : List ℕ
     remaining = filter (λ i. not (any (eqb i) takenPlaces)) (below n)
@@ -140,12 +189,12 @@ picked store pattern n takenPlaces places known =
     competitor : {i : ℕ} → i ∈ competing → i < n
     competitor m = inside (from_or_else (is_joined pattern takenPlaces) remaining m)
 
-    same_remaining : remaining_by n places ≡ remaining
+    same_remaining : remaining_by n taken ≡ remaining
     same_remaining =
-        filter_same (λ i. not (place_at places i).taken) (λ i. not (any (eqb i) takenPlaces)) (below n) (λ i m. ap not (known.is_taken i (from_below n m)))
+        filter_same (λ i. not (get_or taken i false)) (λ i. not (any (eqb i) takenPlaces)) (below n) (λ i m. ap not (is_taken i (from_below n m)))
 
-    same-joined : filter (λ i. (place_at places i).joined) remaining ≡ filter (is_joined pattern takenPlaces) remaining
-    same-joined = filter_same (λ i. (place_at places i).joined) (is_joined pattern takenPlaces) remaining (λ i m. known.joins i (inside m))
+    same-joined : filter (λ i. get_or joined i false) remaining ≡ filter (is_joined pattern takenPlaces) remaining
+    same-joined = filter_same (λ i. get_or joined i false) (is_joined pattern takenPlaces) remaining (λ i m. joins i (inside m))
 
-    same-beats : (i j : ℕ) → i < n → j < n → beats_at places i j ≡ beats store pattern takenPlaces i j
-    same-beats i j h k = rw (known.counts i h, known.counts j k, known.row_count i h, known.row_count j k) refl
+    same-beats : (i j : ℕ) → i < n → j < n → beats_at terms rows i j ≡ beats store pattern takenPlaces i j
+    same-beats i j h k = rw (isTerms i h, isTerms j k, isRows i h, isRows j k) refl

@@ -1,3 +1,3 @@
 -- What the functions of this crate are held to, in terms of the definitions.
+pub mod Flags
 pub mod Met
-pub mod Places

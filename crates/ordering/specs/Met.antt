@@ -5,8 +5,6 @@ use Rattle.model.specs.Pattern.{Pattern, most_variables, positions, triple_at}
 use Rattle.model.specs.Planner.{is_fixed}
 use Rattle.model.specs.declared.pattern.Position.{Position}
 use Rattle.model.specs.declared.pattern.Position.TheVariants.{Term, Var}
-use Rattle.ordering.specs.Places.{place_at}
-use Rattle.ordering.specs.declared.place.Place.{Place}
 
 -- each variable has a cell
 abbrev pub HaveCells : List Position → Type 0
@@ -32,6 +30,6 @@ meeting_all met [] = met
 meeting_all met (x ∷ xs) = meeting_all (meeting met x) xs
 
 -- what a pick goes by, of each of n places: whether a position is met, and how many positions count as terms
-pub record PlacesNoted (pattern : Pattern) (n : ℕ) (met : List Bool) (places : List Place) : Type 0 where
-  pub joins : (i : ℕ) → i < n → (place_at places i).joined ≡ any (met_by met) (positions (triple_at pattern i))
-  pub counts : (i : ℕ) → i < n → (place_at places i).terms ≡ length (filter (counts_by met) (positions (triple_at pattern i)))
+pub record PlacesNoted (pattern : Pattern) (n : ℕ) (met joined : List Bool) (terms : List ℕ) : Type 0 where
+  pub joins : (i : ℕ) → i < n → get_or joined i false ≡ any (met_by met) (positions (triple_at pattern i))
+  pub counts : (i : ℕ) → i < n → get_or terms i 0 ≡ length (filter (counts_by met) (positions (triple_at pattern i)))

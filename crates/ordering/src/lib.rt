@@ -3,4 +3,3 @@
 
 pub mod met;
 pub mod ordering;
-pub mod place;

@@ -1,75 +1,43 @@
--- The plan of a pattern as the code makes it: what is known of each place, and the order one place after the other.
+-- The plan of a pattern as the code makes it: the tables of the places one by one, then the order one place after the other.
 use Prim.Native.Nat.{ℕ, suc, ◌+◌, ◌*◌, ◌-◌, ◌<◌, ◌≤◌}
 use native.Mathlib.Omega.{arith}
 use mathlib.Core.Path.{◌≡◌, refl, sym, ap, ◌∙◌}
-use mathlib.Core.Bool.{Bool, true, false, ◌&&◌, ◌||◌, not, or-false, or-true}
+use mathlib.Core.Bool.{Bool, true, false, ◌&&◌, ◌||◌, not, or-false}
 use mathlib.Core.List.Memᴰ
 use mathlib.Core.List.{List, [], ◌∷◌, ◌++◌, map, append-nil, map-append}
-use lib.ListN.{length, get_or, get_or-map, set, length-append, length-map}
-use lib.Seq.{append_snoc, get_or-set_other}
-use borrow.Author.Tests.{eqb-true, eqb-false}
-use Rattle.std.proofs.lemmas.Grind.{get_or-set_at}
+use lib.ListN.{length, get_or, set, length-append, length-map}
+use lib.Seq.{append_snoc}
 use lib.Dec.{eqb}
 use Rattle.model.specs.Lists.{◌∈◌, filter, any, below}
 use Rattle.model.specs.Store.{Store}
 use Rattle.model.specs.Pattern.{Pattern, most_triple_patterns, places}
 use Rattle.model.specs.Plan.{Step, places_of}
-use Rattle.model.specs.Planner.{choose_table, chosen_rows, without, pick, order, planned}
+use Rattle.model.specs.Planner.{choose_table, is_joined, term_count, chosen_rows, without, pick, order, planned}
 use Rattle.model.specs.Calls.{plan_numbers}
 use Rattle.model.specs.declared.plan.Plan.{Plan as PlanNumbers}
 use Rattle.model.proofs.Membership.{filter-all, any_append, filter_same, filter-filter}
 use Rattle.model.proofs.Below.{from_below}
+use Rattle.model.proofs.Setting.{set_more}
 use Rattle.model.proofs.Ordering.{from_ordered, ordered}
-use Rattle.ordering.specs.Places.{place_at, untaken, unnoted, pick_by}
-use Rattle.ordering.specs.declared.place.Place.{Place}
+use Rattle.planning.specs.Choices.{TablesChosen}
+use Rattle.ordering.specs.Flags.{pick_by}
 use Rattle.plans.proofs.PlanReading.{step-written}
-use Rattle.ordering.proofs.Picking.{PlacesKnown, picked}
+use Rattle.ordering.proofs.Picking.{picked}
 
--- ---- what is known of a place
+-- ---- the tables
 
--- what is known of a place, apart from the notes for a pick, when some are taken
-abbrev pub known : Store → Pattern → List ℕ → ℕ → Place
-known store pattern taken i = record {
-  choice = choose_table store pattern i;
-  rows = chosen_rows store pattern i;
-  taken = any (eqb i) taken;
-  joined = false;
-  terms = 0;
-}
+module _ (store : Store) (pattern : Pattern) where
+  pub none_chosen : (choices rows : List ℕ) → TablesChosen store pattern 0 choices rows
+  none_chosen choices rows = record { choice = λ i h. absurd (omega arith); row_count = λ i h. absurd (omega arith) }
 
--- a place when it is taken
-abbrev pub taking : Place → Place
-taking place = record { choice = place.choice; rows = place.rows; taken = true; joined = false; terms = 0 }
-
--- it stays as the notes are taken
-pub known_still : (new old : List Place) → map unnoted new ≡ map unnoted old → (i : ℕ) → unnoted (place_at new i) ≡ unnoted (place_at old i)
-known_still new old same i =
-    sym (get_or-map unnoted new i (untaken 0 0)) ∙ ap (λ l. get_or l i (untaken 0 0)) same ∙ get_or-map unnoted old i (untaken 0 0)
-
--- one place more is taken
-pub known_more : (store : Store) (pattern : Pattern) (taken : List ℕ) (places : List Place) (place : Place) {n i : ℕ}
-    → ((j : ℕ) → j < n → unnoted (place_at places j) ≡ known store pattern taken j) → i < length places → unnoted place ≡ taking (place_at places i)
-    → (j : ℕ) → j < n → unnoted (place_at (set places i place) j) ≡ known store pattern (taken ++ i ∷ []) j
-known_more store pattern taken places place {n} {i} before inside e j h = go (eqb j i) refl
-  where
-    with_flag : Bool → Place
-    with_flag b = record { choice = choose_table store pattern j; rows = chosen_rows store pattern j; taken = b; joined = false; terms = 0 }
-
-    flag : any (eqb j) (taken ++ i ∷ []) ≡ (any (eqb j) taken || eqb j i)
-    flag = any_append (eqb j) taken (i ∷ []) ∙ ap (λ b. any (eqb j) taken || b) (or-false (eqb j i))
-
-    go : (b : Bool) → eqb j i ≡ b → unnoted (place_at (set places i place) j) ≡ known store pattern (taken ++ i ∷ []) j
-    go true q =
-        let same : j ≡ i = eqb-true j i q in
-        ap unnoted (get_or-set_at places i j place (untaken 0 0) same inside)
-        ∙ e
-        ∙ ap (λ (k : ℕ). taking (place_at places k)) (sym same)
-        ∙ ap taking (before j h)
-        ∙ ap with_flag (sym (flag ∙ rw q (or-true (any (eqb j) taken))))
-    go false q =
-        ap unnoted (get_or-set_other places i j place (untaken 0 0) (eqb-false j i q))
-        ∙ before j h
-        ∙ ap with_flag (sym (flag ∙ rw q (or-false (any (eqb j) taken))))
+  -- the table of one place more
+  pub chosen_more : {i c r : ℕ} {choices rows : List ℕ} → TablesChosen store pattern i choices rows
+      → i < length choices → i < length rows → c ≡ choose_table store pattern i → r ≡ chosen_rows store pattern i
+      → TablesChosen store pattern (i + 1) (set choices i c) (set rows i r)
+  chosen_more {choices = choices} {rows} v h k p q = record {
+    choice = set_more (choose_table store pattern) choices 0 v.choice h p;
+    row_count = set_more (chosen_rows store pattern) rows 0 v.row_count k q;
+  }
 
 -- ---- the places that are left
 
@@ -129,11 +97,14 @@ module _ (store : Store) (pattern : Pattern) where
             ∙ ap (λ l. taken ++ i ∷ [] ++ order store pattern (n - length (taken ++ i ∷ [])) (taken ++ i ∷ []) l) (left_less n i taken);
       }
 
-  -- by what is known of each place the code finds the pick, which is the next place
-  pub begun_more : (taken : List ℕ) (places : List Place) {n i : ℕ} → Begun store pattern taken → length pattern ≡ n → length taken < n
-      → PlacesKnown store pattern taken n places → i ≡ pick_by n places → Begun store pattern (taken ++ i ∷ [])
-  begun_more taken places {n} b size h noted found =
-      rw (found, picked store pattern n taken places noted, ← size)
+  -- by the notes of each place the code finds the pick, which is the next place
+  pub begun_more : (taken : List ℕ) (noted joined : List Bool) (terms : List ℕ) {n i : ℕ} {choices rows : List ℕ}
+      → Begun store pattern taken → length pattern ≡ n → length taken < n → TablesChosen store pattern n choices rows
+      → ((j : ℕ) → j < n → get_or noted j false ≡ any (eqb j) taken) → ((j : ℕ) → j < n → get_or joined j false ≡ is_joined pattern taken j)
+      → ((j : ℕ) → j < n → get_or terms j 0 ≡ term_count pattern taken j)
+      → i ≡ pick_by n noted joined terms rows → Begun store pattern (taken ++ i ∷ [])
+  begun_more taken noted joined terms {n} {rows = rows} b size h tables is_taken joins counts found =
+      rw (found, picked store pattern n taken noted joined terms rows is_taken joins tables.row_count counts, ← size)
       (begun_picked taken b (omega arith))
 
   -- the places taken are places of the pattern

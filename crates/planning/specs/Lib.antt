@@ -1,2 +1,2 @@
 -- What the functions of this crate are held to, in terms of the definitions.
-pub mod Places
+pub mod Choices

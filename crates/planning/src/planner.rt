@@ -5,26 +5,25 @@ ghost use Rattle.model.specs.Calls.{plan_numbers};
 ghost use Rattle.model.specs.Store.{decoded};
 ghost use Rattle.catalog.specs.Lookups.{Validated};
 ghost use Rattle.positions.specs.Members.{pattern_in, PatternHolds};
-ghost use Rattle.planning.specs.Places.{UntakenPlaces};
+ghost use Rattle.planning.specs.Choices.{TablesChosen};
 
 use choosing::choosing::choose_table;
 use model::plan::Plan;
 use ordering::met::{meet_variables, note_places};
 use ordering::ordering::pick;
-use ordering::place::Place;
 use positions::pattern::Pattern;
 
-// The places before the first pick: none is taken, and each has the table chosen for it.
-fn untaken_places(w: &[u32], pattern: Pattern) -> [Place; 8]
-    requires { Validated w.now × PatternHolds (decoded w.now).site pattern }
-    ensures { UntakenPlaces (decoded w.now) (pattern_in pattern) pattern.count result }
+// For each place: the choice of its table, and the rows of that table.
+fn choose_tables(w: &[u32], pattern: Pattern, choices: &mut [usize; 8], rows: &mut [usize; 8])
+    requires validated { Validated w.now × PatternHolds (decoded w.now).site pattern }
+    requires count_in_bounds { (pattern.count ≤ length choices.old) × (pattern.count ≤ length rows.old) }
+    ensures { TablesChosen (decoded w.now) (pattern_in pattern) pattern.count choices.new rows.new }
 {
-    let mut places = [Place::untaken(0, 0); 8];
     for i in 0..pattern.count {
-        let table = choose_table(w, pattern, i);
-        places[i] = Place::untaken(table.number, table.rows);
+        let chosen = choose_table(w, pattern, i);
+        choices[i] = chosen.number;
+        rows[i] = chosen.rows;
     }
-    places
 }
 
 // The plan of a pattern that was accepted.
@@ -32,16 +31,20 @@ pub fn plan_pattern(w: &[u32], pattern: Pattern) -> Plan
     requires { Validated w.now × PatternHolds (decoded w.now).site pattern × (is_accepted (decoded w.now).site (pattern_in pattern) ≡ true) }
     ensures { result ≡ plan_numbers (planned (decoded w.now) (pattern_in pattern)) }
 {
-    let mut places = untaken_places(w, pattern);
-    let mut met = [false; 8];
+    let mut choices = [0usize; 8];
+    let mut rows = [0usize; 8];
+    choose_tables(w, pattern, &mut choices, &mut rows);
     let mut steps = [0u8; 16];
+    let mut taken = [false; 8];
+    let mut met = [false; 8];
+    let mut joined = [false; 8];
+    let mut terms = [0usize; 8];
     for n in 0..pattern.count {
-        note_places(pattern, &met, &mut places);
-        let i = pick(pattern.count, &places);
-        let place = &mut places[i];
-        place.taken = true;
+        note_places(pattern, &met, &mut joined, &mut terms);
+        let i = pick(pattern.count, &taken, &joined, &terms, &rows);
         steps[2 * n] = i as u8;
-        steps[2 * n + 1] = place.choice as u8;
+        steps[2 * n + 1] = choices[i] as u8;
+        taken[i] = true;
         let member = pattern.members[i];
         meet_variables(member.triple, &mut met);
     }
