@@ -17,8 +17,8 @@ pub fn show(site: &[u8], zones: Reading, check: &[u8], question: Reading, out: &
     ensures prefix_len { IsPrefixLen result out.new }
     ensures out_after { take result out.new ≡ screen (taken site.now zones.size (said zones.end)) (taken check.now question.size (said question.end)) }
 {
-    let site = &site[..taken(site, zones)];
-    let check = &check[..taken(check, question)];
+    let site = &site[..taken(site, zones.size, zones.end.said())];
+    let check = &check[..taken(check, question.size, question.end.said())];
     let mut rows = [0u32; ROW_WORDS];
     let answer = check_site(site, check, &mut rows);
     put_answer(answer, &rows, out)

@@ -14,6 +14,19 @@ pub enum End {
     Failed,
 }
 
+impl End {
+    // As a last read says it: 0 where the file has ended, above 0 where there may be more, and below 0 where the read failed.
+    pub fn said(self) -> isize
+        ensures { result ≡ said self }
+    {
+        match self {
+            End::Reached => 0,
+            End::Unknown => 1,
+            End::Failed => -1,
+        }
+    }
+}
+
 // What was read of a file: the count of bytes, and how it ended.
 #[derive(Clone, Copy, Debug, PartialEq, Eq)]
 pub struct Reading {
@@ -71,15 +84,15 @@ pub fn read_file<R: Files>(files: &R, path: &[u8], buffer: &mut [u8]) -> Reading
     }
 }
 
-// How many of the bytes read are taken: where the file has ended all, where there may be more only those that fill the buffer, and where a
-// read failed none.
+// How many of the bytes read are taken, by what the last read said: where the file has ended all, where there may be more only those that
+// fill the buffer, and where the read failed none.
 #[tactic(auto, unfolding(model::specs::Files::taken_size))]
-pub fn taken(buffer: &[u8], reading: Reading) -> usize
-    ensures { result ≡ taken_size (length buffer.now) reading.size (said reading.end) }
+pub fn taken(buffer: &[u8], size: usize, said: isize) -> usize
+    ensures { result ≡ taken_size (length buffer.now) size said }
 {
-    match reading.end {
-        End::Reached => reading.size,
-        End::Unknown if reading.size == buffer.len() => reading.size,
-        End::Unknown | End::Failed => 0,
+    match said {
+        0 => size,
+        1.. if size == buffer.len() => size,
+        _ => 0,
     }
 }
