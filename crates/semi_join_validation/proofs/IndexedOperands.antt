@@ -56,7 +56,7 @@ module _ {count : ℕ} {words objects : List ℕ} {ranges : List ValueRange} (x 
     rows-sorted : join.own.column ≡ Object → ObjectsSorted words objects first join.own.start join.own.rows
     rows-sorted is_object =
         let one : offset_of join.own.column ≡ 1 = ap offset_of is_object in
-        let compared = rw is_object at (columns_compared_turned (kind_number kind) (number_below kind) own_kind partner_kind) in
+        let compared = rw one at (columns_compared_turned (kind_number kind) _ _ (offset_below join.own.column, own_kind) (offset_below join.partner.column, partner_kind) (number_below kind)) in
         let near : apart ranges (partner_place q join) (range_at p 1) ≡ false = apart_turned ranges (partner_place q join) (range_at p 1) ∙ (rw one at met) in
         rw (behind, sides.own.start, sides.own.rows)
         (x.sorted p h q l (offset_of join.partner.column) (offset_below join.partner.column) compared (λ e. differ (omega (arith, one, e))) near)
@@ -64,7 +64,7 @@ module _ {count : ℕ} {words objects : List ℕ} {ranges : List ValueRange} (x 
     partners_sorted : join.partner.column ≡ Object → ObjectsSorted words objects first join.partner.start join.partner.rows
     partners_sorted is_object =
         let one : offset_of join.partner.column ≡ 1 = ap offset_of is_object in
-        let compared = rw is_object at (columns_compared (kind_number kind) (number_below kind) own_kind partner_kind) in
+        let compared = rw one at (columns_compared (kind_number kind) _ _ (offset_below join.own.column, own_kind) (offset_below join.partner.column, partner_kind) (number_below kind)) in
         rw (behind, sides.partner.start, sides.partner.rows)
         (x.sorted q l p h (offset_of join.own.column) (offset_below join.own.column) compared (λ e. differ (omega (arith, one, e))) (rw one at met))
 

@@ -14,7 +14,7 @@ use Rattle.model.specs.Lists.{all}
 use Rattle.model.specs.Tables.{Column, subject, object, kinds, kind_at, kind_count, most_threshold, is_stored}
 use Rattle.model.specs.Store.{Reduced, is_stored_table, vp_entry_at, semi_join_place, semi_join_entry_at}
 use Rattle.model.proofs.Booleans.{and_cases, or_cases}
-use Rattle.model.proofs.Membership.{at_place, from_all}
+use Rattle.model.proofs.Membership.{at_place, place_of, into_all, from_all}
 use Rattle.model.proofs.MayChoose.{whole_not_stored}
 use Rattle.tables.specs.declared.kinds.Kind.{Kind as KindOfCode}
 use Rattle.tables.specs.declared.kinds.Kind.TheVariants.{SS, OS, SO, OO}
@@ -34,6 +34,7 @@ use Rattle.row_order.proofs.Proper.{word_passes}
 use Rattle.statistics.specs.declared.ranges.ValueRange.{ValueRange}
 use Rattle.statistics.specs.Ranges.{range_in, SideRange, AllMeasured, apart}
 use Rattle.statistics.proofs.ColumnRanges.{none_left}
+use Rattle.statistics.proofs.ComparedColumns.{number_as}
 use Rattle.semi_join_validation.specs.Joins.{entry_agrees, is_told, Joined, kind_apart, kinds_apart, empty_pair}
 use Rattle.semi_join_validation.proofs.IndexedOperands.{own_place, partner_place, itself_left}
 use Rattle.semi_join_validation.proofs.Join.{ends_not_stored}
@@ -41,11 +42,7 @@ use Rattle.semi_join_validation.proofs.Joined.{joined-more}
 
 -- the number of a column, as the code has it
 pub column_numbered : (c : ColumnOfCode) {column : Column} → column_as c ≡ column → column_number column ≡ offset_of c
-column_numbered c e = sym (ap column_number e) ∙ numbered c
-  where
-    numbered : (c : ColumnOfCode) → column_number (column_as c) ≡ offset_of c
-    numbered Subject = refl
-    numbered Object = refl
+column_numbered c e = sym (ap column_number e) ∙ number_as c
 
 -- a column, as the code has it
 abbrev coded : Column → ColumnOfCode
@@ -57,6 +54,12 @@ coded_as subject = refl
 coded_as object = refl
 
 module _ (ranges : List ValueRange) (p q : ℕ) where
+  -- the columns that each kind compares are apart
+  pub kinds-apart : ((k : ℕ) → k < kind_count → kind_apart ranges p q (kind_at k) ≡ true) → kinds_apart ranges p q ≡ true
+  unfolding kinds_apart
+  kinds-apart each =
+      into_all (kind_apart ranges p q) kinds (λ kind among. let (k, h, e) = place_of (subject, subject) among in rw e at (each k h))
+
   -- the columns that kind k compares are apart
   pub kind_apart_lem : kinds_apart ranges p q ≡ true → (k : ℕ) → k < kind_count → kind_apart ranges p q (kind_at k) ≡ true
   unfolding kinds_apart

@@ -14,7 +14,7 @@ use borrow.Author.Count.{below_more}
 use borrow.Author.Tests.{ltb-true, ltb-false, leb-true, le-leb, eqb-true, eqb-false, eq-eqb, ne_eqb}
 use Rattle.model.specs.Store.{vp_entry_at}
 use Rattle.model.specs.Lists.{below}
-use Rattle.model.specs.Tables.{semi_join, subject, object}
+use Rattle.model.specs.Tables.{semi_join}
 use Rattle.model.proofs.Booleans.{not_both, to_false, and_make, or_cases, or_left, or_right}
 use Rattle.model.proofs.Membership.{from_all, into_all, any_append, into_any}
 use Rattle.model.proofs.Below.{from_below, into_below}
@@ -23,7 +23,6 @@ use Rattle.searching.proofs.WordSearch.{word_found, before_first, behind_last}
 use Rattle.model.proofs.Rows.{rows_at_lem}
 use Rattle.tables.specs.declared.layout.TableEntry.{TableEntry}
 use Rattle.tables.specs.Entries.{TableEntryAt}
-use Rattle.tables.specs.Columns.{column_of}
 use Rattle.tables.specs.LeftRows.{left_rows}
 use Rattle.tables.proofs.Partners.{has_partner, partner_found, at_column, row-left, row_not_left}
 use Rattle.statistics.specs.declared.ranges.ValueRange.{ValueRange}
@@ -214,16 +213,16 @@ pub apart_turned : (ranges : List ValueRange) (a b : ℕ) → apart ranges a b �
 apart_turned ranges a b = or_comm (ltb (range_in ranges a).highest (range_in ranges b).lowest) (ltb (range_in ranges b).highest (range_in ranges a).lowest)
 
 -- one other column that is compared with them is enough for objects to be reached
-pub reached_by : (ranges : List ValueRange) (k i p column : ℕ) → p < k → column < 2 → are_compared (column_of column) object ≡ true → range_at p column ≢ range_at i 1
+pub reached_by : (ranges : List ValueRange) (k i p column : ℕ) → p < k → column < 2 → are_compared column 1 ≡ true → range_at p column ≢ range_at i 1
     → apart ranges (range_at p column) (range_at i 1) ≡ false → objects_reached ranges k i ≡ true
 unfolding objects_reached is_reached meets_other
 reached_by ranges k i p column h l compared other e =
     go column l compared
     (into_any (λ q. meets_other ranges (range_at q column) (range_at i 1)) (into_below k h) (and_make (ap not (ne_eqb (range_at p column) (range_at i 1) other)) (ap not e)))
   where
-    go : (column : ℕ) → column < 2 → are_compared (column_of column) object ≡ true → is_reached ranges k column (range_at i 1) ≡ true → objects_reached ranges k i ≡ true
-    go zero l compared met = or_left (are_compared object object && is_reached ranges k 1 (range_at i 1)) (and_make compared met)
-    go (suc zero) l compared met = or_right (are_compared subject object && is_reached ranges k 0 (range_at i 1)) (and_make compared met)
+    go : (column : ℕ) → column < 2 → are_compared column 1 ≡ true → is_reached ranges k column (range_at i 1) ≡ true → objects_reached ranges k i ≡ true
+    go zero l compared met = or_left (are_compared 1 1 && is_reached ranges k 1 (range_at i 1)) (and_make compared met)
+    go (suc zero) l compared met = or_right (are_compared 0 1 && is_reached ranges k 0 (range_at i 1)) (and_make compared met)
     go (suc (suc c)) l compared met = absurd (omega arith)
 
 -- ---- where the ranges stand

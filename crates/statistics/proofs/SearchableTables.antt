@@ -16,7 +16,7 @@ use Rattle.model.specs.SiteFile.{declarations}
 use Rattle.model.specs.Lists.{all, ascends, below}
 use Rattle.model.specs.Numbers.{is_term}
 use Rattle.model.specs.Site.{Row, row_before, rows_proper, Site, row_total, no_table, table_at}
-use Rattle.model.specs.Tables.{Column, object}
+use Rattle.model.specs.Tables.{Column}
 use Rattle.model.specs.Store.{rows_start, rows_in, vp_entries, vp_entry_at}
 use Rattle.model.proofs.Booleans.{and_cases, or_left, not_both, to_false}
 use Rattle.model.proofs.Membership.{at_place, from_all, filter_same}
@@ -25,7 +25,6 @@ use Rattle.model.proofs.Order.{rows}
 use Rattle.model.proofs.Sorting.{ascending_sorted}
 use Rattle.model.proofs.Partition.{proper}
 use Rattle.searching.specs.Search.{word_at, Ascending, SortedRun}
-use Rattle.tables.specs.Columns.{column_of}
 use Rattle.tables.specs.declared.layout.TableEntry.{TableEntry}
 use Rattle.tables.specs.Entries.{TableEntryAt}
 use Rattle.tables.specs.SiteWords.{site_in, ImageOf}
@@ -213,11 +212,11 @@ module _ {count : ℕ} {w : List ℕ} (o : ImageOf count w) where
 
     -- if they are reached; with them the third number of their range is written
     pub sorted_more : (ranges : List ValueRange) (whole : Bool) (fits : range_at (i + 1) 0 ≤ length ranges) → AllSorted count w objects ranges i
-        → ((p : ℕ) → p < count → (column : ℕ) → column < 2 → are_compared (column_of column) object ≡ true → range_at p column ≢ range_at i 1 → apart ranges (range_at p column) (range_at i 1) ≡ false → CopyOf w (start_at i) (rows_at i) copy)
+        → ((p : ℕ) → p < count → (column : ℕ) → column < 2 → are_compared column 1 ≡ true → range_at p column ≢ range_at i 1 → apart ranges (range_at p column) (range_at i 1) ≡ false → CopyOf w (start_at i) (rows_at i) copy)
         → AllSorted count w (put_back objects (part_at i) copy rest) (again ranges i whole fits) (i + 1)
     sorted_more ranges whole fits s c =
         below_more
-        (λ j. (p : ℕ) → p < count → (column : ℕ) → column < 2 → are_compared (column_of column) object ≡ true → range_at p column ≢ range_at j 1 → apart (again ranges i whole fits) (range_at p column) (range_at j 1) ≡ false
+        (λ j. (p : ℕ) → p < count → (column : ℕ) → column < 2 → are_compared column 1 ≡ true → range_at p column ≢ range_at j 1 → apart (again ranges i whole fits) (range_at p column) (range_at j 1) ≡ false
         → ObjectsSorted w (put_back objects (part_at i) copy rest) (rows_start count) (start_at j) (rows_at j)) i
         (λ j l p m column n compared other e. earlier_sorted j l (s j l p m column n compared other (sym (apart-again ranges i whole fits (range_at p column) (range_at j 1)) ∙ e)))
         (λ p m column n compared other e. table-sorted (c p m column n compared other (sym (apart-again ranges i whole fits (range_at p column) (range_at i 1)) ∙ e)))

@@ -5,7 +5,6 @@ use Rattle.model.specs.Lists.{filter, below}
 use Rattle.model.specs.Site.{Row}
 use Rattle.model.specs.Tables.{Column, at, object}
 use Rattle.model.specs.Store.{rows_start, rows_in, vp_entry_at}
-use Rattle.tables.specs.Columns.{column_of}
 use Rattle.tables.specs.declared.columns.Column.TheVariants.{Object}
 use Rattle.tables.specs.declared.semi_joins.Side.{Side}
 use Rattle.searching.specs.Search.{word_at, Ascending, SortedRun}
@@ -48,7 +47,7 @@ AllSearchable count words objects k =
 -- the objects of each of the first k are sorted, if another column of some table that is compared with objects is not apart from them
 abbrev pub AllSorted : ℕ → List ℕ → List ℕ → List ValueRange → ℕ → Type 0
 AllSorted count words objects ranges k =
-    (i : ℕ) → i < k → (p : ℕ) → p < count → (column : ℕ) → column < 2 → are_compared (column_of column) object ≡ true → range_at p column ≢ range_at i 1 → apart ranges (range_at p column) (range_at i 1) ≡ false
+    (i : ℕ) → i < k → (p : ℕ) → p < count → (column : ℕ) → column < 2 → are_compared column 1 ≡ true → range_at p column ≢ range_at i 1 → apart ranges (range_at p column) (range_at i 1) ≡ false
     → ObjectsSorted words objects (rows_start count) (get_or words (vp_entry_at i + 2) 0) (get_or words (vp_entry_at i + 1) 0)
 
 -- what question 10 makes once of an image: a copy of objects and ranges of columns, by which its tables are searched

@@ -1,7 +1,7 @@
 -- The range of a column's values, by which rows have no partners or all have, without a search.
 use Rattle.std.specs.Prelude.{ℕ, ◌+◌, ◌-◌, ◌*◌, ◌≤◌, ◌<◌, ◌≡◌, Bool, true, false, ◌&&◌, ◌||◌, not, List, get_or, drop, eqb, ltb, leb}
 use Rattle.model.specs.Lists.{any, all, below}
-use Rattle.model.specs.Tables.{at, subject, object}
+use Rattle.model.specs.Tables.{at}
 use Rattle.model.specs.Store.{rows_in, vp_entry_at}
 use Rattle.tables.specs.Columns.{column_of, offset_of}
 use Rattle.tables.specs.declared.semi_joins.Side.{Side}
@@ -71,4 +71,4 @@ is_reached ranges k column place = any (λ p. meets_other ranges (range_at p col
 -- another column that is compared with objects is not apart from the objects of table i
 unfoldable pub objects_reached : List ValueRange → ℕ → ℕ → Bool
 objects_reached ranges k i =
-    (are_compared subject object && is_reached ranges k 0 (range_at i 1)) || (are_compared object object && is_reached ranges k 1 (range_at i 1))
+    (are_compared 0 1 && is_reached ranges k 0 (range_at i 1)) || (are_compared 1 1 && is_reached ranges k 1 (range_at i 1))

@@ -41,8 +41,9 @@ pub fn copy_objects(w: &[u32], count: usize, ranges: &mut [ValueRange; 32], obje
     ensures { IndexedTables count w.now objects.new ranges.new }
 {
     let first = rows_start(count);
-    let by_subjects = are_compared(Column::Subject, Column::Object);
-    let by_objects = are_compared(Column::Object, Column::Object);
+    let object = Column::Object.offset();
+    let by_subjects = are_compared(Column::Subject.offset(), object);
+    let by_objects = are_compared(object, object);
     for i in 0..count {
         let table = table_entry(w, i);
         let n = table.rows;

@@ -1,6 +1,5 @@
 ghost use Rattle.std.specs.Prelude.{◌≡◌, ◌<◌, ◌≤◌, ◌+◌, ◌*◌, length, set};
 ghost use Rattle.model.specs.Site.{most_predicates};
-ghost use Rattle.model.specs.Tables.{subject, object};
 ghost use Rattle.tables.specs.Columns.{offset_of};
 ghost use Rattle.tables.specs.SiteWords.{ImageOf};
 ghost use Rattle.searching.specs.Search.{SortedRun};
@@ -144,7 +143,7 @@ pub fn objects_reached(
     objects: bool,
     i: usize,
 ) -> bool
-    requires { (count ≤ most_predicates) × (i < most_predicates) × (subjects ≡ are_compared subject object) × (objects ≡ are_compared object object) }
+    requires { (count ≤ most_predicates) × (i < most_predicates) × (subjects ≡ are_compared 0 1) × (objects ≡ are_compared 1 1) }
     ensures { result ≡ objects_reached ranges.now count i }
 {
     let place = range_at(i, Column::Object);

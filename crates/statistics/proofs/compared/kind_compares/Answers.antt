@@ -1,14 +1,25 @@
+-- The one column, then the other, each by its number.
 use mathlib.Core.Path.{refl}
-use Rattle.tables.proofs.KindsOfCode.{same_as}
+use borrow.Author.Tests.{eq-eqb, ne_eqb}
 use Rattle.statistics.specs.Compared.{compares}
+use Rattle.statistics.proofs.ComparedColumns.{number_as}
 use Rattle.statistics.proofs.compared.kind_compares.Goals as goal
 
-pub returns-then-eq : goal.returns-then-eq
+pub returns-then-offset-a : goal.returns-then-offset-a
 unfolding compares
-returns-then-eq c =
-    rw (← c.own.ensures, ← (same_as c.own.result c.args.a), ← c.eq.ensures, c.if-eq.true, c.eq-then-eq.ensures, same_as, c.partner.ensures) refl
+returns-then-offset-a c =
+    rw (
+      ← c.own.ensures,
+      ← c.partner.ensures,
+      number_as c.own.result,
+      number_as c.partner.result,
+      ← c.offset.ensures.value,
+      ← c.offset-then-offset-a.ensures.value,
+      c.if-offset-a.true,
+      eq-eqb c.args.a c.args.a refl,
+    ) refl
 
-pub returns-else-eq : goal.returns-else-eq
+pub returns-else-offset-a : goal.returns-else-offset-a
 unfolding compares
-returns-else-eq c =
-    rw (← c.own.ensures, ← (same_as c.own.result c.args.a), ← c.eq.ensures, c.if-eq.false) refl
+returns-else-offset-a c =
+    rw (← c.own.ensures, number_as c.own.result, ← c.offset.ensures.value, ne_eqb c.offset.result c.args.a c.if-offset-a.false) refl

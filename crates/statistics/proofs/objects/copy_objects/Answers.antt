@@ -46,8 +46,12 @@ pub overflow_sub-to : goal.overflow_sub-to
 overflow_sub-to c = behind _ c.table_entry-table.ensures c.requires.0 c.loop-i-test.true c.rows_start-first.ensures
 
 pub objects_reached-reached-requires : goal.objects_reached-reached-requires
-objects_reached-reached-requires c =
-    (few_predicates c.requires.0, (entry_inside c.requires.0 _ c.loop-i-test.true).0, c.are_compared-by_subjects.ensures, c.are_compared-by_objects.ensures)
+objects_reached-reached-requires c = (
+  few_predicates c.requires.0,
+  (entry_inside c.requires.0 _ c.loop-i-test.true).0,
+  (rw (c.offset.ensures.value, c.offset-object.ensures.value) at c.are_compared-by_subjects.ensures),
+  (rw c.offset-object.ensures.value at c.are_compared-by_objects.ensures),
+)
 
 pub slice_bounds-copy_reached-count : goal.slice_bounds-copy_reached-count
 slice_bounds-copy_reached-count c =

@@ -4,7 +4,6 @@ use mathlib.Core.Logic.{⊎_elim}
 use mathlib.Core.Bool.{false, ◌&&◌, and-false}
 use borrow.Author.Rules.{rules}
 use Rattle.model.proofs.Booleans.{and_make, or_left}
-use Rattle.model.specs.Tables.{subject, object}
 use Rattle.statistics.specs.Compared.{are_compared}
 use Rattle.statistics.specs.Ranges.{range_at, is_reached, objects_reached}
 use Rattle.statistics.proofs.ranges.objects_reached.Statement.{statement}
@@ -18,11 +17,11 @@ is-reached-requires c κs = search rules
 
 -- the subjects are not compared with objects, or they are apart
 subjects-apart : (c : tie.Joined-else-subjects) → let s = c.args in
-    (are_compared subject object && is_reached s.ranges.now s.count 0 (range_at s.i 1)) ≡ false
+    (are_compared 0 1 && is_reached s.ranges.now s.count 0 (range_at s.i 1)) ≡ false
 subjects-apart c =
     let compared = c.requires.2 in
     ⊎_elim
-    (λ w. rw (rw c.range_at-place.ensures at (sym w.is_reached.ensures ∙ w.if-is_reached.false)) (and-false (are_compared subject object)))
+    (λ w. rw (rw c.range_at-place.ensures at (sym w.is_reached.ensures ∙ w.if-is_reached.false)) (and-false (are_compared 0 1)))
     (λ w. rw (sym compared ∙ w.if-subjects.false) refl)
     c.else-subjects.branch-raw
 
