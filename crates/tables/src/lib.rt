@@ -2,6 +2,7 @@
 #![tactic(auto)]
 
 pub mod columns;
+pub mod copying;
 pub mod kinds;
 pub mod layout;
 pub mod limits;
