@@ -25,7 +25,7 @@ use Rattle.patterns.specs.declared.pattern_reader.PatternRead.{PatternRead}
 use Rattle.scanning.specs.PhysicalPlan.{join_from}
 use Rattle.joining.specs.Results.{rows_found}
 use Rattle.running.specs.Prepared.{PreparedAs}
-use Rattle.running.specs.declared.preparing.PhysicalPlan.{PhysicalPlan}
+use Rattle.running.specs.declared.preparing.Prepared.{Prepared}
 use Rattle.running.specs.Planned.{IsPlanned}
 use Rattle.running.proofs.PlannedSteps.{rows_are, as_many}
 use Rattle.closing.specs.Checks.{CheckedAs, PlanGiven, PlanGivenAs}
@@ -43,38 +43,38 @@ module _ (words bytes plan_bytes : List ℕ) {r : Result PatternRead Refusal} (r
     pub check_refused : {B : Type 0} (refusal : ℕ → B) (next : Check → B) → either refusal (given_plan words bytes plan_bytes) next ≡ refusal (refusal_number e)
     check_refused refusal next = either_refused refusal next no_check
 
-    pub check_refused_as : PlanGivenAs words (given_plan words bytes plan_bytes) (Err e)
-    check_refused_as = refused_as (PlanGiven words) e no_check
+    pub check_refused_as : (steps : List ℕ) → PlanGivenAs words steps (given_plan words bytes plan_bytes) (Err e)
+    check_refused_as steps = refused_as (PlanGiven words steps) e no_check
 
   -- it is accepted
-  pub plan_given : {p : PatternRead} (given : Result (Option PhysicalPlan) Refusal) → r ≡ Ok p
-      → PreparedAs words (pattern_in p.pattern) (read_plan (decoded words) (pattern_in p.pattern) plan_bytes) given
-      → PlanGivenAs words (given_plan words bytes plan_bytes) given
+  pub plan_given : {p : PatternRead} (steps : List ℕ) (given : Result (Option Prepared) Refusal) → r ≡ Ok p
+      → PreparedAs words steps (pattern_in p.pattern) (read_plan (decoded words) (pattern_in p.pattern) plan_bytes) given
+      → PlanGivenAs words steps (given_plan words bytes plan_bytes) given
   unfolding given_plan_under either
-  plan_given {p} given h prepared =
+  plan_given {p} steps given h prepared =
       rw (after_check words bytes read refused (λ (c : Check). either refused (read_plan c.store c.pattern plan_bytes) (λ _. gives c)) h)
       (go (read_plan (decoded words) (pattern_in p.pattern) plan_bytes) prepared)
     where
       accepted : is_accepted (decoded words).site (pattern_in p.pattern) ≡ true
       accepted = (check_given words bytes read h).2
 
-      go : (reply : Reply Plan) → PreparedAs words (pattern_in p.pattern) reply given
-          → PlanGivenAs words (either refused reply (λ _. gives (check_of (decoded words) (pattern_in p.pattern)))) given
+      go : (reply : Reply Plan) → PreparedAs words steps (pattern_in p.pattern) reply given
+          → PlanGivenAs words steps (either refused reply (λ _. gives (check_of (decoded words) (pattern_in p.pattern)))) given
       go (refused n) t = t
       go (gives plan) t = (t.0, t.1, (refl, accepted, t.2))
 
   -- and the plan is refused
-  pub plan_refused : {p : PatternRead} (e : Refusal) → r ≡ Ok p → PreparedAs words (pattern_in p.pattern) (read_plan (decoded words) (pattern_in p.pattern) plan_bytes) (Err e)
+  pub plan_refused : {p : PatternRead} (steps : List ℕ) (e : Refusal) → r ≡ Ok p → PreparedAs words steps (pattern_in p.pattern) (read_plan (decoded words) (pattern_in p.pattern) plan_bytes) (Err e)
       → {B : Type 0} (refusal : ℕ → B) (next : Check → B) → either refusal (given_plan words bytes plan_bytes) next ≡ refusal (refusal_number e)
-  plan_refused e h prepared refusal next =
-      either_refused refusal next (err_refused (PlanGiven words) (given_plan words bytes plan_bytes) (plan_given _ h prepared) refl)
+  plan_refused steps e h prepared refusal next =
+      either_refused refusal next (err_refused (PlanGiven words steps) (given_plan words bytes plan_bytes) (plan_given steps _ h prepared) refl)
 
 -- ---- what follows
 
-module _ (words bytes plan_bytes : List ℕ) {r : Result (Option PhysicalPlan) Refusal} (read : PlanGivenAs words (given_plan words bytes plan_bytes) r) where
+module _ (words bytes plan_bytes steps : List ℕ) {r : Result (Option Prepared) Refusal} (read : PlanGivenAs words steps (given_plan words bytes plan_bytes) r) where
   module _ {e : Refusal} (h : r ≡ Err e) where
     not_given : given_plan words bytes plan_bytes ≡ refused (refusal_number e)
-    not_given = err_refused (PlanGiven words) (given_plan words bytes plan_bytes) read h
+    not_given = err_refused (PlanGiven words steps) (given_plan words bytes plan_bytes) read h
 
     pub run_refused : (memory : List ℕ) → run words bytes plan_bytes memory ≡ unaltered memory (refusal_number e)
     unfolding run_under
@@ -89,32 +89,32 @@ module _ (words bytes plan_bytes : List ℕ) {r : Result (Option PhysicalPlan) R
     pub run_none : (memory : List ℕ) → run words bytes plan_bytes memory ≡ outcome None memory
     unfolding run_under
     run_none memory =
-        let (check, gave, (store, accepted, none)) = ok_gives (PlanGiven words) (given_plan words bytes plan_bytes) read h in
+        let (check, gave, (store, accepted, none)) = ok_gives (PlanGiven words steps) (given_plan words bytes plan_bytes) read h in
         either_gives (unaltered memory) _ gave ∙ rw (store, none) refl
 
     pub whether_none : whether words bytes plan_bytes ≡ No
     unfolding whether_under yes_or_no
     whether_none =
-        let (check, gave, (store, accepted, none)) = ok_gives (PlanGiven words) (given_plan words bytes plan_bytes) read h in
+        let (check, gave, (store, accepted, none)) = ok_gives (PlanGiven words steps) (given_plan words bytes plan_bytes) read h in
         either_gives Refused _ gave ∙ rw store (ap yes_or_no (none_by_counts_lem (decoded words).site check.pattern accepted none))
 
   -- they do not, and the steps are joined
-  module _ {p : PhysicalPlan} (h : r ≡ Ok (Some p)) where
-    pub run-rows : (memory : List ℕ) → run words bytes plan_bytes memory ≡ rows_outcome p.width (rows_found words p.steps p.count p.width) memory
+  module _ {p : Prepared} (h : r ≡ Ok (Some p)) where
+    pub run-rows : (memory : List ℕ) → run words bytes plan_bytes memory ≡ rows_outcome p.width (rows_found words steps p.count p.width) memory
     unfolding run_under
     run-rows memory =
-        let (check, gave, (store, accepted, (some, planned, wide))) = ok_gives (PlanGiven words) (given_plan words bytes plan_bytes) read h in
+        let (check, gave, (store, accepted, (some, planned, wide))) = ok_gives (PlanGiven words steps) (given_plan words bytes plan_bytes) read h in
         let all = solutions (decoded words).site check.pattern in
         either_gives (unaltered memory) _ gave
         ∙ rw (store, some)
         (ap (λ (v : ℕ). rows_outcome v all memory) (sym wide)
         ∙ ap (λ (rows : List (List ℕ)). rows_outcome p.width rows memory) (sym (rows_are check.pattern planned wide)))
 
-    pub whether_found : {found : Bool} → found ≡ ltb 0 (length (join_from words p.steps p.count p.count nothing_met))
+    pub whether_found : {found : Bool} → found ≡ ltb 0 (length (join_from words steps p.count p.count nothing_met))
         → whether words bytes plan_bytes ≡ whether_answer (Ok found)
     unfolding whether_under
     whether_found {found} asked =
-        let (check, gave, (store, accepted, (some, planned, wide))) = ok_gives (PlanGiven words) (given_plan words bytes plan_bytes) read h in
+        let (check, gave, (store, accepted, (some, planned, wide))) = ok_gives (PlanGiven words steps) (given_plan words bytes plan_bytes) read h in
         either_gives Refused _ gave
         ∙ rw store
         (told_found (solutions (decoded words).site check.pattern)
@@ -126,7 +126,7 @@ module _ (words bytes plan_bytes : List ℕ) {r : Result (Option PhysicalPlan) R
         told true = refl
         told false = refl
 
-  pub planned_steps : {p : PhysicalPlan} → r ≡ Ok (Some p) → IsPlanned words p.steps p.count p.width
+  pub planned_steps : {p : Prepared} → r ≡ Ok (Some p) → IsPlanned words steps p.count p.width
   planned_steps h =
-      let (check, gave, (store, accepted, (some, planned, wide))) = ok_gives (PlanGiven words) (given_plan words bytes plan_bytes) read h in
+      let (check, gave, (store, accepted, (some, planned, wide))) = ok_gives (PlanGiven words steps) (given_plan words bytes plan_bytes) read h in
       (check.pattern, planned, wide)

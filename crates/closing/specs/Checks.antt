@@ -10,7 +10,7 @@ use Rattle.catalog.specs.Lookups.{Validated}
 use Rattle.positions.specs.Members.{pattern_in, PatternHolds, EndsHold}
 use Rattle.patterns.specs.declared.pattern_reader.PatternRead.{PatternRead}
 use Rattle.running.specs.Prepared.{StepsGiven}
-use Rattle.running.specs.declared.preparing.PhysicalPlan.{PhysicalPlan}
+use Rattle.running.specs.declared.preparing.Prepared.{Prepared}
 
 -- the words are a store's, and the check is of it and of the pattern
 abbrev pub CheckGiven : List ℕ → Check → PatternRead → Type 0
@@ -21,10 +21,10 @@ CheckGiven words check r =
 abbrev pub CheckedAs : List ℕ → Reply Check → Result PatternRead Refusal → Type 0
 CheckedAs words = ReplyAs (CheckGiven words)
 
--- the words are a store's, and what is given is of it and of the check's pattern
-abbrev pub PlanGiven : List ℕ → Check → Option PhysicalPlan → Type 0
-PlanGiven words check r =
-    (check.store ≡ decoded words) × (is_accepted (decoded words).site check.pattern ≡ true) × StepsGiven words check.pattern r
+-- the words are a store's, and what is given, with the steps, is of it and of the check's pattern
+abbrev pub PlanGiven : List ℕ → List ℕ → Check → Option Prepared → Type 0
+PlanGiven words steps check r =
+    (check.store ≡ decoded words) × (is_accepted (decoded words).site check.pattern ≡ true) × StepsGiven words steps check.pattern r
 
-abbrev pub PlanGivenAs : List ℕ → Reply Check → Result (Option PhysicalPlan) Refusal → Type 0
-PlanGivenAs words = ReplyAs (PlanGiven words)
+abbrev pub PlanGivenAs : List ℕ → List ℕ → Reply Check → Result (Option Prepared) Refusal → Type 0
+PlanGivenAs words steps = ReplyAs (PlanGiven words steps)

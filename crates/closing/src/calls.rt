@@ -1,7 +1,7 @@
 ghost use Rattle.std.specs.Prelude.{◌≡◌};
-ghost use Rattle.model.specs.Calls.{outcome, checked as check_reply, given_plan, build as build_outcome, plan as plan_answer, run as run_outcome, whether as whether_answer};
+ghost use Rattle.model.specs.Calls.{outcome, checked as check_reply, build as build_outcome, plan as plan_answer, run as run_outcome, whether as whether_answer};
 ghost use Rattle.model.specs.Results.{build_answer, plan_answer as planned_answer, run_answer, whether_answer as told_answer};
-ghost use Rattle.closing.specs.Checks.{CheckedAs, PlanGivenAs};
+ghost use Rattle.closing.specs.Checks.{CheckedAs};
 
 use building::builder::fill_store;
 use model::answer::{Answer, Planned, WrittenRows};
@@ -10,7 +10,7 @@ use model::refusal::Refusal;
 use patterns::pattern_reader::{PatternRead, read_pattern};
 use planning::planner::plan_pattern;
 use running::decider::plan_has_solution;
-use running::preparing::{PhysicalPlan, prepare};
+use running::preparing::prepare;
 use running::runner::run_plan;
 use site_reading::site_reader::read_site;
 use tables::layout::IMAGE_WORDS;
@@ -41,15 +41,6 @@ fn checked(store: &[u32], pattern: &[u8]) -> Result<PatternRead, Refusal>
     read_pattern(store, pattern)
 }
 
-// Questions 10 to 20, and the physical plan of a plan that is given; none where the counts alone say that there is no solution. Every call
-// that is given a plan begins with them.
-fn prepared(store: &[u32], pattern: &[u8], plan: &[u8]) -> Result<Option<PhysicalPlan>, Refusal>
-    ensures { PlanGivenAs store.now (given_plan store.now pattern.now plan.now) result }
-{
-    let check = checked(store, pattern)?;
-    prepare(store, &check, plan)
-}
-
 // The plan of a check: its steps and their count.
 fn plan_check(store: &[u32], pattern: &[u8]) -> Result<Plan, Refusal>
     ensures { planned_answer result ≡ plan_answer store.now pattern.now }
@@ -67,20 +58,24 @@ fn run_check(
 ) -> Result<Option<WrittenRows>, Refusal>
     ensures { outcome (run_answer result) rows.new ≡ run_outcome store.now pattern.now plan.now rows.old }
 {
-    let Some(given) = prepared(store, pattern, plan)? else {
+    let check = checked(store, pattern)?;
+    let mut steps = [0u32; 32];
+    let Some(given) = prepare(store, &check, plan, &mut steps)? else {
         return Ok(None);
     };
-    run_plan(store, given, rows)
+    run_plan(store, &mut steps, given.count, given.width, rows)
 }
 
 // Whether a check has a solution, by a given plan. The first solution ends it.
 fn has_match(store: &[u32], pattern: &[u8], plan: &[u8]) -> Result<bool, Refusal>
     ensures { told_answer result ≡ whether_answer store.now pattern.now plan.now }
 {
-    let Some(asked) = prepared(store, pattern, plan)? else {
+    let inquiry = checked(store, pattern)?;
+    let mut steps = [0u32; 32];
+    let Some(asked) = prepare(store, &inquiry, plan, &mut steps)? else {
         return Ok(false);
     };
-    Ok(plan_has_solution(store, asked))
+    Ok(plan_has_solution(store, &mut steps, asked.count, asked.width))
 }
 
 // Builds the store of a site's file at the threshold t: Built with the words used, or a refusal 1 to 9 that leaves the store as it was.

@@ -12,40 +12,32 @@ use model::refusal::Refusal;
 use patterns::pattern_reader::PatternRead;
 use plans::plan_reader::read_plan;
 
-// The physical plan that a call goes by: four numbers for each step, how many steps there are, and V.
+// What a call goes by beside the steps of the physical plan: how many there are, and V.
 #[derive(Clone, Copy)]
-pub struct PhysicalPlan {
-    pub steps: [u32; 32],
+pub struct Prepared {
     pub count: usize,
     pub width: u32,
 }
 
-// Of an accepted pattern: questions 18 to 20, then the counts, then the physical plan; none where the counts alone say that there is no
-// solution.
-pub fn prepare(w: &[u32], check: &PatternRead, plan: &[u8]) -> Result<Option<PhysicalPlan>, Refusal>
+// Of an accepted pattern: questions 18 to 20, then the counts, then the physical plan, in the lent steps; none where the counts alone say that
+// there is no solution.
+pub fn prepare(
+    w: &[u32],
+    check: &PatternRead,
+    plan: &[u8],
+    steps: &mut [u32; 32],
+) -> Result<Option<Prepared>, Refusal>
     requires validated { Validated w.now × PatternHolds (decoded w.now).site check.now.pattern × (is_accepted (decoded w.now).site (pattern_in check.now.pattern) ≡ true) }
     requires ends_hold { EndsHold check.now.pattern check.now.subjects check.now.objects }
-    ensures { PreparedAs w.now (pattern_in check.now.pattern) (read_plan (decoded w.now) (pattern_in check.now.pattern) plan.now) result }
+    ensures { PreparedAs w.now steps.new (pattern_in check.now.pattern) (read_plan (decoded w.now) (pattern_in check.now.pattern) plan.now) result }
 {
     let pattern = check.pattern;
     let proper = read_plan(w, pattern, plan)?;
     if none_by_counts(w, pattern) {
         return Ok(None);
     }
-    let mut steps = [0u32; 32];
-    make_physical_plan(
-        w,
-        pattern,
-        &check.subjects,
-        &check.objects,
-        proper,
-        &mut steps,
-    );
+    make_physical_plan(w, pattern, &check.subjects, &check.objects, proper, steps);
     let count = proper.count;
     let width = pattern.width;
-    Ok(Some(PhysicalPlan {
-        steps,
-        count,
-        width,
-    }))
+    Ok(Some(Prepared { count, width }))
 }
