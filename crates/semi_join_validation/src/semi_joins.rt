@@ -194,7 +194,11 @@ fn semi_joins_hold_with(
     requires { SemiJoinWords t count w.now first used × (row_total (site_in count w.now) ≤ length objects.old) }
     ensures { result ≡ joins_hold t count w.now used }
 {
-    let mut ranges = [ValueRange::NONE; 32];
+    let mut ranges = [ValueRange {
+        lowest: 0,
+        highest: 0,
+        whole: false,
+    }; 32];
     collect_statistics(w, count, &mut ranges);
     copy_objects(w, count, &mut ranges, objects);
     each_semi_join_holds(t, w, objects, &ranges, count, first, used)
