@@ -88,6 +88,10 @@ module _ {count : ℕ} {image₀ : List ℕ} (o : ImageOf count image₀) where
         let m = length-take-le x all (rw (length_all_of o) h) in
         rw f.written (image_unchanged o (vp_entry_at count) es (inr (omega arith)) (omega arith))
 
+    -- the entry of the next semi-join stands in the image
+    pub next_inside : x < count * (count * kind_count) → vp_entry_at count + 2 * x + 2 ≤ length image
+    next_inside h = omega (arith, entries_inside o, filled-length f, h)
+
     -- the next semi-join, as the code reads it in the image
     module _ (h : x < count * (count * kind_count)) {r : SemiJoin} (known : SemiJoinOf (site_in count image) image x r) where
       -- what it leaves is counted of the site as it was
@@ -95,12 +99,6 @@ module _ {count : ℕ} {image₀ : List ℕ} (o : ImageOf count image₀) where
       next_counted e =
           let same = filled_image (omega arith) in
           rw same.1 at (counted_of same.0 x h (rw known.left at e) known.full)
-
-      pub next_entry : r.entry ≡ vp_entry_at count + 2 * x
-      next_entry = known.entry_place ∙ ap (λ (n : ℕ). vp_entry_at n + 2 * x) (filled_image (omega arith)).0.predicates
-
-      pub next_inside : r.entry + 2 ≤ length image
-      next_inside = omega (arith, next_entry, entries_inside o, filled-length f, h)
 
       -- its rows end at a small number
       pub next_small : first ≡ stored_start (site_in count image₀) → here + 2 * most_rows < 4294967296
@@ -153,10 +151,8 @@ module _ {count : ℕ} {image₀ : List ℕ} (o : ImageOf count image₀) where
 
 -- the entry of a semi-join has counted the rows that it leaves
 pub counted_in : {count : ℕ} {image : List ℕ} → ImageOf count image → CountsIn count image → {x n : ℕ} {r : SemiJoin} → x < count * (count * kind_count)
-    → SemiJoinOf (site_in count image) image x r → n ≡ get_or image r.entry 0 → Counted (site_in count image) x n r.own.rows
-counted_in {image = image} o counts {x = x} h known read =
-    let place = known.entry_place ∙ ap (λ (n : ℕ). vp_entry_at n + 2 * x) o.predicates in
-    counted_of o x h (read ∙ ap (λ (i : ℕ). get_or image i 0) place ∙ counts.counts x h) known.full
+    → SemiJoinOf (site_in count image) image x r → n ≡ get_or image (vp_entry_at count + 2 * x) 0 → Counted (site_in count image) x n r.own.rows
+counted_in o counts {x = x} h known read = counted_of o x h (read ∙ counts.counts x h) known.full
 
 -- it is one of the site
 pub join_inside : {count : ℕ} {image : List ℕ} → ImageOf count image → {x : ℕ} → x < count * (count * kind_count) → x < length (semi_joins (site_in count image))

@@ -10,7 +10,9 @@ use model::refusal::Refusal;
 use reducing::semi_join_count::count_semi_join;
 use reducing::semi_join_write::write_semi_join;
 use tables::kinds::{KINDS, is_stored};
-use tables::layout::{put_semi_join_entry, rows_start, semi_join_entry, table_entry};
+use tables::layout::{
+    nth_semi_join_entry_at, put_semi_join_entry, rows_start, semi_join_entry, table_entry,
+};
 use tables::semi_joins::SemiJoin;
 
 // Where the stored tables' rows begin.
@@ -37,10 +39,15 @@ fn fill_entries(t: usize, count: usize, image: &mut [u32], first: usize) -> usiz
         let rows = join.own.rows;
         let left = count_semi_join(image, join);
         if is_stored(t, left, rows) {
-            put_semi_join_entry(image, join.entry, left as u32, here as u32);
+            put_semi_join_entry(
+                image,
+                nth_semi_join_entry_at(count, x),
+                left as u32,
+                here as u32,
+            );
             here += 2 * left;
         } else {
-            put_semi_join_entry(image, join.entry, left as u32, 0);
+            put_semi_join_entry(image, nth_semi_join_entry_at(count, x), left as u32, 0);
         }
     }
     here
@@ -55,7 +62,7 @@ fn write_stored(t: usize, count: usize, image: &[u32], store: &mut [u32], first:
     let mut next = first;
     for x in 0..count * (count * KINDS) {
         let join = SemiJoin::nth(image, count, x);
-        let left = semi_join_entry(image, join.entry).rows;
+        let left = semi_join_entry(image, nth_semi_join_entry_at(count, x)).rows;
         if is_stored(t, left, join.own.rows) {
             next = write_semi_join(image, join, store, next);
         }
